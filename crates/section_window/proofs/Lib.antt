@@ -1,0 +1,4 @@
+pub mod Few
+pub mod Parts
+pub mod Reading
+pub mod Showing
