@@ -1,0 +1,8 @@
+pub mod Digits
+pub mod Exact
+pub mod Order
+pub mod Spelling
+pub mod Whole
+pub mod Bound
+pub mod Parts
+pub mod Corners
