@@ -1,0 +1,6 @@
+pub mod Along
+pub mod Roots
+pub mod Links
+pub mod HeaderPaths
+pub mod GeometryPaths
+pub mod FeaturePaths
