@@ -1,0 +1,37 @@
+-- From what a root table judges to what its buffer does.
+use Rattle.std.proofs.Common.{◌≡◌, ℕ, List, Result, subst}
+use Rattle.flat_layout.specs.declared.Broken.{Broken}
+use Rattle.flat_layout.specs.Layout.{target}
+use Rattle.flat_layout.specs.Promises.{IsClean, Names, Judges, BreaksRoot}
+use Rattle.flat_layout.proofs.Judging.{names-weaker}
+use Rattle.flat_views.specs.declared.tables.Table.{Table}
+use Rattle.flat_views.specs.Tables.{IsTableAt, base_of, bytes_of, place_of}
+use Rattle.fgb_schema.specs.Tables.{Name, table as table_thing}
+use Rattle.fgb_schema.specs.Paths.{offset, thing, Breaks}
+use Rattle.fgb_points.proofs.Judged.{judge_whole, at_table}
+use Rattle.fgb_schema.proofs.Roots.{rooted, from_root, from_offset, offset_clean}
+
+-- a refusal of the root is one of the buffer
+pub refuse_root : (name : Name) (base' base : ℕ) (b' b : List ℕ) (e : Broken) → base' ≡ base → b' ≡ b → Names base' (BreaksRoot b') e → Names base (Breaks b (offset (table_thing name) 0)) e
+refuse_root name base' base b' b e same_base same_bytes named =
+    subst (λ k. Names k (Breaks b (offset (table_thing name) 0)) e) same_base
+    (subst (λ s. Names base' (Breaks s (offset (table_thing name) 0)) e) same_bytes
+    (names-weaker base' (BreaksRoot b') (Breaks b' (offset (table_thing name) 0)) e (from_root b' name) named))
+
+along : {T : Type 0} (name : Name) (base : ℕ) (b : List ℕ) (Shows : List ℕ → ℕ → T → Type 0) (r : Result T Broken) → IsClean (BreaksRoot b)
+    → Judges base (Breaks b (thing (table_thing name) (target b 0))) (Shows b (target b 0)) r → Judges base (Breaks b (offset (table_thing name) 0)) (Shows b (target b 0)) r
+along name base b Shows r clean judged =
+    let sound = (rooted b clean).offset in
+    judge_whole base (Breaks b (thing (table_thing name) (target b 0))) (Breaks b (offset (table_thing name) 0)) (Shows b (target b 0)) (Shows b (target b 0)) r
+    (λ q rule. from_offset b (table_thing name) 0 q rule sound) (offset_clean b (table_thing name) 0 sound) (λ x shows. shows) judged
+
+-- what the root table judges, the buffer judges
+pub judge_root : {T : Type 0} (name : Name) (base' base : ℕ) (b' b : List ℕ) (table : Table) (Shows : List ℕ → ℕ → T → Type 0) (r : Result T Broken)
+    → base' ≡ base → b' ≡ b → IsTableAt b' base' (target b' 0) table → IsClean (BreaksRoot b')
+    → Judges (base_of table) (Breaks (bytes_of table) (thing (table_thing name) (place_of table))) (Shows (bytes_of table) (place_of table)) r
+    → Judges base (Breaks b (offset (table_thing name) 0)) (Shows b (target b 0)) r
+judge_root name base' base b' b table Shows r same_base same_bytes at clean judged =
+    subst (λ k. Judges k (Breaks b (offset (table_thing name) 0)) (Shows b (target b 0)) r) same_base
+    (subst (λ s. Judges base' (Breaks s (offset (table_thing name) 0)) (Shows s (target s 0)) r) same_bytes
+    (along name base' b' Shows r clean
+    (at_table b' base' (target b' 0) table (λ s t. Breaks s (thing (table_thing name) t)) Shows r at judged)))

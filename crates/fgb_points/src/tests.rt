@@ -1,0 +1,87 @@
+use super::*;
+use flat_views::{Broken, Rule};
+use order_keys::{Bounds, Coord};
+use std::test::Fail;
+
+/// The header of a file of type Point without features.
+const HEADER: [u8; 24] = [
+    16, 0, 0, 0, 10, 0, 5, 0, 0, 0, 0, 0, 4, 0, 0, 0, 12, 0, 0, 0, 1, 0, 0, 0,
+];
+
+/// The header of a file with an index of 179 Points.
+const INDEXED: [u8; 48] = [
+    32, 0, 0, 0, 22, 0, 13, 0, 0, 0, 0, 0, 12, 0, 0, 0, 0, 0, 0, 0, 0, 0, 0, 0, 4, 0, 0, 0, 0, 0,
+    0, 0, 28, 0, 0, 0, 179, 0, 0, 0, 0, 0, 0, 0, 1, 0, 0, 0,
+];
+
+/// The feature with the point (1, 2).
+const POINT: [u8; 84] = [
+    16, 0, 0, 0, 6, 0, 8, 0, 4, 0, 0, 0, 0, 0, 0, 0, 12, 0, 0, 0, 28, 0, 0, 0, 18, 0, 9, 0, 0, 0,
+    4, 0, 0, 0, 0, 0, 0, 0, 0, 0, 8, 0, 0, 0, 0, 0, 0, 0, 24, 0, 0, 0, 12, 0, 0, 0, 1, 0, 0, 0, 0,
+    0, 0, 0, 2, 0, 0, 0, 0, 0, 0, 0, 0, 0, 240, 63, 0, 0, 0, 0, 0, 0, 0, 64,
+];
+
+/// A feature without a geometry.
+const NO_GEOMETRY: [u8; 12] = [8, 0, 0, 0, 4, 0, 4, 0, 4, 0, 0, 0];
+
+#[test]
+fn headers(rt: HostRuntime) -> Result<(), Fail> {
+    let plain = Header {
+        geometry_type: 1,
+        features_count: 0,
+        node_size: 16,
+    };
+    assert_eq!(rt; Header::read(&HEADER, 12)?, plain);
+    assert!(rt; !plain.has_index());
+    let indexed = Header::read(&INDEXED, 12)?;
+    assert_eq!(rt; indexed.features_count, 179);
+    assert!(rt; indexed.has_index());
+    let mut eight = HEADER;
+    eight[20] = 8;
+    let place = 12 + 16;
+    let rule = Rule::Kind;
+    assert_eq!(rt; Header::read(&eight, 12), Err(Broken { place, rule }));
+    Ok(())
+}
+
+fn broken(place: u64, rule: Rule) -> Result<Bounds, Broken> {
+    Err(Broken { place, rule })
+}
+
+#[test]
+fn boxes(rt: HostRuntime) -> Result<(), Fail> {
+    let empty = Bounds::empty();
+    let point = Bounds::of_point(Coord(0x3ff0_0000_0000_0000), Coord(0x4000_0000_0000_0000));
+    assert_eq!(rt; own_box(&NO_GEOMETRY, 1000, 1)?, empty);
+    // a byte of the feature and its new value, the type of the header, and the answer
+    let rows = [
+        (56, 1, 1, Ok(point)),
+        (56, 1, 0, Ok(point)),
+        (56, 3, 1, Ok(point)),
+        (64, 0, 1, Ok(empty)),
+        (56, 3, 0, broken(1048, Rule::Kind)),
+        (56, 1, 3, broken(1048, Rule::Kind)),
+        (64, 1, 1, broken(1064, Rule::PairCount)),
+        (64, 4, 1, broken(1064, Rule::Vector)),
+        (75, 127, 1, broken(1068, Rule::NotFinite)),
+    ];
+    for (at, value, geometry_type, want) in rows {
+        assert!(rt; at < POINT.len());
+        let mut bytes = POINT;
+        bytes[at] = value;
+        assert_eq!(rt;
+            own_box(&bytes, 1000, geometry_type),
+            want,
+            "{value} at {at}"
+        );
+    }
+    let mut high = POINT;
+    high[82] = 240;
+    high[83] = 127;
+    assert_eq!(rt; own_box(&high, 1000, 1), broken(1076, Rule::NotFinite));
+    let mut two = [0; 100];
+    two[..84].copy_from_slice(&POINT);
+    two[64] = 4;
+    assert_eq!(rt; own_box(&two, 1000, 1), broken(1064, Rule::PointCount));
+    Ok(())
+}
