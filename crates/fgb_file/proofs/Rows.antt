@@ -1,0 +1,58 @@
+-- The definitions at worked files, computed: the file of three Points, a Point at the negative zero, and the two files
+-- without features.
+use Rattle.std.proofs.Common.{◌≡◌, ℕ, ◌++◌, List, [], ◌∷◌, codes, refl}
+use Rattle.std.specs.List.{concat}
+use Rattle.order_keys.specs.declared.bounds.Bounds.{Bounds}
+use Rattle.std.specs.Fmt.{digits}
+use Rattle.order_keys.specs.Keys.{key_of}
+use Rattle.flat_layout.specs.Layout.{number_at, target, is_absent, slot, entry, field_place, vtable_place, vtable_size, led_to, place_in, number_in, longs, count}
+use Rattle.fgb_schema.specs.Tables.{type_of}
+use Rattle.fgb_schema.specs.Records.{header_of, header_at, shape_at}
+use Rattle.fgb_file.specs.File.{header_end, header_buffer}
+use Rattle.fgb_file.specs.Found.{found, line, lines}
+
+-- the start and the header of a file of Points
+abbrev start_and_header : List ℕ
+start_and_header = 102 ∷ 103 ∷ 98 ∷ 3 ∷ 102 ∷ 103 ∷ 98 ∷ 1 ∷ 24 ∷ 0 ∷ 0 ∷ 0 ∷ 16 ∷ 0 ∷ 0 ∷ 0 ∷ 10 ∷ 0 ∷ 5 ∷ 0 ∷ 0 ∷ 0 ∷ 0 ∷ 0 ∷ 4 ∷ 0 ∷ 0 ∷ 0 ∷ 12 ∷ 0 ∷ 0 ∷ 0 ∷ 1 ∷ 0 ∷ 0 ∷ 0 ∷ []
+
+-- the feature of the Point (1, 2), with its size prefix
+abbrev point_1_2 : List ℕ
+point_1_2 = 84 ∷ 0 ∷ 0 ∷ 0 ∷ 16 ∷ 0 ∷ 0 ∷ 0 ∷ 6 ∷ 0 ∷ 8 ∷ 0 ∷ 4 ∷ 0 ∷ 0 ∷ 0 ∷ 0 ∷ 0 ∷ 0 ∷ 0 ∷ 12 ∷ 0 ∷ 0 ∷ 0 ∷ 28 ∷ 0 ∷ 0 ∷ 0 ∷ 18 ∷ 0 ∷ 9 ∷ 0 ∷ 0 ∷ 0 ∷ 4 ∷ 0 ∷ 0 ∷ 0 ∷ 0 ∷ 0 ∷ 0 ∷ 0 ∷ 0 ∷ 0 ∷ 8 ∷ 0 ∷ 0 ∷ 0 ∷ 0 ∷ 0 ∷ 0 ∷ 0 ∷ 24 ∷ 0 ∷ 0 ∷ 0 ∷ 12 ∷ 0 ∷ 0 ∷ 0 ∷ 1 ∷ 0 ∷ 0 ∷ 0 ∷ 0 ∷ 0 ∷ 0 ∷ 0 ∷ 2 ∷ 0 ∷ 0 ∷ 0 ∷ 0 ∷ 0 ∷ 0 ∷ 0 ∷ 0 ∷ 0 ∷ 240 ∷ 63 ∷ 0 ∷ 0 ∷ 0 ∷ 0 ∷ 0 ∷ 0 ∷ 0 ∷ 64 ∷ []
+
+-- the Point (10, 10)
+abbrev point_10_10 : List ℕ
+point_10_10 = 84 ∷ 0 ∷ 0 ∷ 0 ∷ 16 ∷ 0 ∷ 0 ∷ 0 ∷ 6 ∷ 0 ∷ 8 ∷ 0 ∷ 4 ∷ 0 ∷ 0 ∷ 0 ∷ 0 ∷ 0 ∷ 0 ∷ 0 ∷ 12 ∷ 0 ∷ 0 ∷ 0 ∷ 28 ∷ 0 ∷ 0 ∷ 0 ∷ 18 ∷ 0 ∷ 9 ∷ 0 ∷ 0 ∷ 0 ∷ 4 ∷ 0 ∷ 0 ∷ 0 ∷ 0 ∷ 0 ∷ 0 ∷ 0 ∷ 0 ∷ 0 ∷ 8 ∷ 0 ∷ 0 ∷ 0 ∷ 0 ∷ 0 ∷ 0 ∷ 0 ∷ 24 ∷ 0 ∷ 0 ∷ 0 ∷ 12 ∷ 0 ∷ 0 ∷ 0 ∷ 1 ∷ 0 ∷ 0 ∷ 0 ∷ 0 ∷ 0 ∷ 0 ∷ 0 ∷ 2 ∷ 0 ∷ 0 ∷ 0 ∷ 0 ∷ 0 ∷ 0 ∷ 0 ∷ 0 ∷ 0 ∷ 36 ∷ 64 ∷ 0 ∷ 0 ∷ 0 ∷ 0 ∷ 0 ∷ 0 ∷ 36 ∷ 64 ∷ []
+
+-- the Point (11, 5)
+abbrev point_11_5 : List ℕ
+point_11_5 = 84 ∷ 0 ∷ 0 ∷ 0 ∷ 16 ∷ 0 ∷ 0 ∷ 0 ∷ 6 ∷ 0 ∷ 8 ∷ 0 ∷ 4 ∷ 0 ∷ 0 ∷ 0 ∷ 0 ∷ 0 ∷ 0 ∷ 0 ∷ 12 ∷ 0 ∷ 0 ∷ 0 ∷ 28 ∷ 0 ∷ 0 ∷ 0 ∷ 18 ∷ 0 ∷ 9 ∷ 0 ∷ 0 ∷ 0 ∷ 4 ∷ 0 ∷ 0 ∷ 0 ∷ 0 ∷ 0 ∷ 0 ∷ 0 ∷ 0 ∷ 0 ∷ 8 ∷ 0 ∷ 0 ∷ 0 ∷ 0 ∷ 0 ∷ 0 ∷ 0 ∷ 24 ∷ 0 ∷ 0 ∷ 0 ∷ 12 ∷ 0 ∷ 0 ∷ 0 ∷ 1 ∷ 0 ∷ 0 ∷ 0 ∷ 0 ∷ 0 ∷ 0 ∷ 0 ∷ 2 ∷ 0 ∷ 0 ∷ 0 ∷ 0 ∷ 0 ∷ 0 ∷ 0 ∷ 0 ∷ 0 ∷ 38 ∷ 64 ∷ 0 ∷ 0 ∷ 0 ∷ 0 ∷ 0 ∷ 0 ∷ 20 ∷ 64 ∷ []
+
+-- the Point (-0, +0)
+abbrev point_zero : List ℕ
+point_zero = 84 ∷ 0 ∷ 0 ∷ 0 ∷ 16 ∷ 0 ∷ 0 ∷ 0 ∷ 6 ∷ 0 ∷ 8 ∷ 0 ∷ 4 ∷ 0 ∷ 0 ∷ 0 ∷ 0 ∷ 0 ∷ 0 ∷ 0 ∷ 12 ∷ 0 ∷ 0 ∷ 0 ∷ 28 ∷ 0 ∷ 0 ∷ 0 ∷ 18 ∷ 0 ∷ 9 ∷ 0 ∷ 0 ∷ 0 ∷ 4 ∷ 0 ∷ 0 ∷ 0 ∷ 0 ∷ 0 ∷ 0 ∷ 0 ∷ 0 ∷ 0 ∷ 8 ∷ 0 ∷ 0 ∷ 0 ∷ 0 ∷ 0 ∷ 0 ∷ 0 ∷ 24 ∷ 0 ∷ 0 ∷ 0 ∷ 12 ∷ 0 ∷ 0 ∷ 0 ∷ 1 ∷ 0 ∷ 0 ∷ 0 ∷ 0 ∷ 0 ∷ 0 ∷ 0 ∷ 2 ∷ 0 ∷ 0 ∷ 0 ∷ 0 ∷ 0 ∷ 0 ∷ 0 ∷ 0 ∷ 0 ∷ 0 ∷ 128 ∷ 0 ∷ 0 ∷ 0 ∷ 0 ∷ 0 ∷ 0 ∷ 0 ∷ 0 ∷ []
+
+abbrev three : List (List ℕ)
+three = point_1_2 ∷ point_10_10 ∷ point_11_5 ∷ []
+
+-- a box of whole numbers from 0 to 10, and one of the two zeros
+abbrev ten : Bounds
+ten = record { min_x = record { 0 = 0 }; min_y = record { 0 = 0 }; max_x = record { 0 = 0x4024_0000_0000_0000 }; max_y = record { 0 = 0x4024_0000_0000_0000 } }
+
+abbrev origin : Bounds
+origin = record { min_x = record { 0 = 0 }; min_y = record { 0 = 0 }; max_x = record { 0 = 0 }; max_y = record { 0 = 0 } }
+
+header_ends : header_end (start_and_header ++ concat three) ≡ 36
+unfolding number_at
+header_ends = refl
+
+header_shown : header_of (header_buffer (start_and_header ++ concat three)) ≡ record { geometry_type = 1; features_count = 0; node_size = 16 }
+unfolding number_at target vtable_place vtable_size slot entry is_absent field_place number_in header_at
+header_shown = refl
+
+three_found : lines (found 1 ten three) ≡ codes "0 0 84 3ff0000000000000 4000000000000000 3ff0000000000000 4000000000000000\n1 88 84 4024000000000000 4024000000000000 4024000000000000 4024000000000000\n"
+unfolding number_at target vtable_place vtable_size slot entry is_absent field_place led_to place_in number_in longs count type_of shape_at line lines key_of digits
+three_found = refl
+
+zero_found : lines (found 1 origin (point_zero ∷ [])) ≡ codes "0 0 84 8000000000000000 0000000000000000 8000000000000000 0000000000000000\n"
+unfolding number_at target vtable_place vtable_size slot entry is_absent field_place led_to place_in number_in longs count type_of shape_at line lines key_of digits
+zero_found = refl
