@@ -1,0 +1,7 @@
+mod Fetching
+mod Going
+mod Stepping
+mod Telling
+mod Starting
+mod Querying
+mod Running

@@ -1,0 +1,22 @@
+use Rattle.std.proofs.Common.{refl}
+use Rattle.fgb_tool.specs.Texts.{source_text, sink_text, memory_text}
+use Rattle.fgb_tool.proofs.Telling.{tells_once}
+use Rattle.fgb_tool.proofs.top.status_of.Goals as goal
+
+pub returns-in-Err-SourceFailed : goal.returns-in-Err-SourceFailed
+unfolding source_text
+returns-in-Err-SourceFailed g c =
+    let stop = c.in-Err-SourceFailed in
+    rw (stop.is, rw stop.is at stop.field-0-is) (refl, rw c.as_bytes.ensures.value at (tells_once _ _ _ _ c.write.ensures))
+
+pub returns-in-Err-SinkFailed : goal.returns-in-Err-SinkFailed
+unfolding sink_text
+returns-in-Err-SinkFailed g c =
+    let stop = c.in-Err-SinkFailed in
+    rw (stop.is, rw stop.is at stop.field-0-is) (refl, rw c.as_bytes-in-Err-SinkFailed.ensures.value at (tells_once _ _ _ _ c.write-in-Err-SinkFailed.ensures))
+
+pub returns-in-Err-Memory : goal.returns-in-Err-Memory
+unfolding memory_text
+returns-in-Err-Memory g c =
+    let stop = c.in-Err-Memory in
+    rw (stop.is, rw stop.is at stop.field-0-is) (refl, rw c.as_bytes-in-Err-Memory.ensures.value at (tells_once _ _ _ _ c.write-in-Err-Memory.ensures))

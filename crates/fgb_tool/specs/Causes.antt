@@ -1,0 +1,29 @@
+-- Why the work stops.
+use Rattle.std.specs.Prelude.{◌≡◌, ⊤, Result, IfErr}
+use Rattle.fgb_outside.specs.declared.sources.SourceError.{SourceError}
+use Rattle.fgb_outside.specs.declared.sources.SourceError.TheVariants as source_error
+use Rattle.fgb_outside.specs.declared.sinks.SinkError.{SinkError}
+use Rattle.fgb_outside.specs.declared.sinks.SinkError.TheVariants as sink_error
+use Rattle.flat_layout.specs.declared.Broken.{Broken}
+use Rattle.fgb_tool.specs.declared.stop.Stop.{Stop}
+use Rattle.fgb_tool.specs.declared.stop.Stop.TheVariants.{Refused, SourceFailed, SinkFailed, Memory}
+
+-- what an error of a source stops the work as
+abbrev pub IsSourceCause : SourceError → Stop → Type 0
+IsSourceCause source_error.Failed stop = stop ≡ SourceFailed
+IsSourceCause source_error.Memory stop = stop ≡ Memory
+
+-- what an error of a sink stops the work as
+abbrev pub IsSinkCause : SinkError → Stop → Type 0
+IsSinkCause sink_error.Failed stop = stop ≡ SinkFailed
+IsSinkCause sink_error.Memory stop = stop ≡ Memory
+
+-- P of the refusal, where the work was refused
+abbrev pub AtRefusal : Stop → (Broken → Type 0) → Type 0
+AtRefusal (Refused broken) P = P broken
+AtRefusal SourceFailed P = ⊤
+AtRefusal SinkFailed P = ⊤
+AtRefusal Memory P = ⊤
+
+abbrev pub IfRefused : {T : Type 0} → Result T Stop → (Broken → Type 0) → Type 0
+IfRefused result P = IfErr result (λ stop. AtRefusal stop P)

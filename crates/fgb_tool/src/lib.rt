@@ -1,0 +1,24 @@
+//! The calls that the program makes: [`run`] answers a command, and [`plan`] says what a command's words ask.
+//!
+//! `run` reads the words, goes through the file once, front to back, and writes a line of each feature whose
+//! own box meets the box of the query. Its contract speaks of the source's bytes and of what it was asked, of
+//! the bytes written, of the text of a refusal and of the status (`specs/Runs.antt`); the definitions that it
+//! cites are those of `fgb_file`.
+#![tactic(auto)]
+
+mod command;
+mod page;
+mod query;
+mod start;
+mod stop;
+mod texts;
+mod top;
+mod walk;
+mod words;
+
+pub use command::{Command, Plan, Target};
+pub use top::run;
+pub use words::plan;
+
+#[cfg(test)]
+mod tests;

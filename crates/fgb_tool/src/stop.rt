@@ -1,0 +1,59 @@
+// Why the work stops before its end.
+ghost use Rattle.std.specs.Prelude.{◌≡◌};
+ghost use Rattle.fgb_tool.specs.Causes.{IsSourceCause, IsSinkCause};
+ghost use Rattle.fgb_tool.specs.declared.stop.Stop.TheVariants.{Memory, Refused};
+
+use fgb_outside::{SinkError, SourceError};
+use flat_views::Broken;
+use std::alloc::AllocError;
+
+/// Why the work stops before its end.
+#[derive(Clone, Copy, Debug, PartialEq, Eq)]
+pub(crate) enum Stop {
+    /// The file breaks this rule at this place.
+    Refused(Broken),
+    /// The source failed, and has counted a fault.
+    SourceFailed,
+    /// The sink failed, and has counted a fault.
+    SinkFailed,
+    /// There was no memory.
+    Memory,
+}
+
+impl From<Broken> for Stop {
+    ghost from_gives = { λ broken stop. stop ≡ Refused broken };
+
+    fn from(broken: Broken) -> Self {
+        Stop::Refused(broken)
+    }
+}
+
+impl From<SourceError> for Stop {
+    ghost from_gives = { IsSourceCause };
+
+    fn from(error: SourceError) -> Self {
+        match error {
+            SourceError::Failed => Stop::SourceFailed,
+            SourceError::Memory => Stop::Memory,
+        }
+    }
+}
+
+impl From<SinkError> for Stop {
+    ghost from_gives = { IsSinkCause };
+
+    fn from(error: SinkError) -> Self {
+        match error {
+            SinkError::Failed => Stop::SinkFailed,
+            SinkError::Memory => Stop::Memory,
+        }
+    }
+}
+
+impl From<AllocError> for Stop {
+    ghost from_gives = { λ _ stop. stop ≡ Memory };
+
+    fn from(_: AllocError) -> Self {
+        Stop::Memory
+    }
+}

@@ -1,0 +1,83 @@
+// The top call.
+ghost use Rattle.std.specs.Prelude.{◌≡◌, ◌≢◌, ℕ, List};
+ghost use Rattle.order_keys.specs.declared.bounds.Bounds.{Bounds as Box};
+ghost use Rattle.fgb_tool.specs.Words.{Asks, IsUsage, texts};
+ghost use Rattle.fgb_tool.specs.Texts.{Tells, usage_text};
+ghost use Rattle.fgb_tool.specs.Runs.{IsStatus, Runs};
+
+use crate::query::query;
+use crate::stop::Stop;
+use crate::texts::{OUT_OF_MEMORY, SINK_FAILED, SOURCE_FAILED, USAGE, write_refusal};
+use crate::words::read_query;
+use fgb_outside::{RangeSource, Sink};
+use std::alloc::Global;
+
+/// The statuses of the program: done, refused, usage, the source failed, the sink failed, no memory.
+const DONE: u8 = 0;
+
+const REFUSED: u8 = 1;
+
+const WRONG_WORDS: u8 = 2;
+
+const SOURCE: u8 = 3;
+
+const SINK: u8 = 4;
+
+const MEMORY: u8 = 5;
+
+/// Answers the command of the words, which do not hold the program's name, over a file, and gives the status
+/// that the program ends with. What is found is written on `out`; a text that says why there is no answer, on
+/// `err`. The one command today is `query FILE --box=MINX,MINY,MAXX,MAXY`.
+pub fn run<S: RangeSource, W: Sink, E: Sink>(
+    alloc: Global,
+    words: &[&str],
+    file: &mut S,
+    out: &mut W,
+    err: &mut E,
+) -> u8
+    // Status 2 comes exactly where the words ask for nothing that there is. Then nothing is asked or written.
+    ensures usage { result ≡ 2 → IsUsage (texts words.now) }
+    ensures usage_text { result ≡ 2 → Tells (E.shown err.old) (E.shown err.new) usage_text }
+    ensures untouched { result ≡ 2 → (S.seen file.new ≡ S.seen file.old) × (W.shown out.new ≡ W.shown out.old) }
+
+    // Else the words ask for the features that meet a box, and this is what happens.
+    ensures asked { result ≢ 2 → (name : List ℕ) × (bounds : Box) × Asks (texts words.now) name bounds }
+    ensures runs { (name : List ℕ) (bounds : Box) → Asks (texts words.now) name bounds → (result ≢ 2)
+        × Runs bounds (S.seen file.old) (S.seen file.new) (W.shown out.old) (W.shown out.new) (E.shown err.old) (E.shown err.new) result }
+{
+    match read_query(words) {
+        None => {
+            let _ = err.write(USAGE.as_bytes());
+            WRONG_WORDS
+        }
+        Some(sought) => {
+            let queried = query(alloc, sought.bounds, file, out);
+            status_of(queried, err)
+        }
+    }
+}
+
+/// Writes the text of a result that is no answer, and gives its status.
+fn status_of<E: Sink>(queried: Result<(), Stop>, err: &mut E) -> u8
+    ensures { IsStatus queried (E.shown err.old) (E.shown err.new) result }
+{
+    match queried {
+        Ok(()) => DONE,
+        Err(Stop::Refused(broken)) => {
+            let _ = write_refusal(err, broken);
+            REFUSED
+        }
+        Err(Stop::SourceFailed) => {
+            let _ = err.write(SOURCE_FAILED.as_bytes());
+            SOURCE
+        }
+        Err(Stop::SinkFailed) => {
+            let _ = err.write(SINK_FAILED.as_bytes());
+            SINK
+        }
+        Err(Stop::Memory) => {
+            let _ = err.write(OUT_OF_MEMORY.as_bytes());
+            MEMORY
+        }
+    }
+}
