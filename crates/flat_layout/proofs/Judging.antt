@@ -1,11 +1,14 @@
 -- How a promise on a part becomes one on the whole: `exit` for the exit of each `?`, what is clean by
 -- its parts, what is named through a field, and a whole `Judges` through an offset or a field.
 use Rattle.std.proofs.Common.{◌≡◌, ℕ, ◌+◌, true, false, Bool, List, Result, Ok, Err, refl, sym, subst, inl, inr, IsErrAnd, MatchResult}
+use Rattle.std.specs.Prelude.{IsUtf8}
+use Rattle.std.specs.Str.{is_utf8}
+use Rattle.std.proofs.lemmas.Str.{IsUtf8-from_is_utf8, is_utf8-from_IsUtf8}
 use Rattle.flat_layout.specs.declared.Rule.{Rule}
-use Rattle.flat_layout.specs.declared.Rule.TheVariants.{Offset, Vtable, Field, Vector}
+use Rattle.flat_layout.specs.declared.Rule.TheVariants.{Offset, Vtable, Field, Vector, Zero, Utf8}
 use Rattle.flat_layout.specs.declared.Broken.{Broken}
-use Rattle.flat_layout.specs.Layout.{is_offset, target, is_table, entry, is_absent, is_field, field_place, is_vector}
-use Rattle.flat_layout.specs.Promises.{BreaksOffset, BreaksTable, BreaksField, BreaksVector, BreaksThrough, BreaksTo, Names, IsClean, Judges}
+use Rattle.flat_layout.specs.Layout.{is_offset, target, is_table, entry, is_absent, is_field, field_place, is_vector, text, is_ended}
+use Rattle.flat_layout.specs.Promises.{BreaksOffset, BreaksTable, BreaksField, BreaksVector, BreaksZero, BreaksUtf8, BreaksText, BreaksThrough, BreaksTo, Names, IsClean, Judges}
 
 -- the exit of a `?`: the refusal is passed on
 pub exit : {T E : Type 0} (P : T → Type 0) (Q : E → Type 0) (r : Result T E) (e : E) → IsErrAnd r (λ y. y ≡ e) → Q e → MatchResult r P Q
@@ -33,7 +36,21 @@ pub clean-vector : (w : ℕ) (b : List ℕ) (v : ℕ) → is_vector w b v ≡ tr
 unfolding BreaksVector
 clean-vector w b v sound q r broken = let wrong = broken.0 in cc
 
+pub clean-zero : (b : List ℕ) (p : ℕ) → is_ended b p ≡ true → IsClean (BreaksZero b p)
+unfolding BreaksZero
+clean-zero b p ended q r broken = let wrong = broken.1 in cc
+
+pub clean-utf8 : (b : List ℕ) (p : ℕ) → IsUtf8 (text b p) → IsClean (BreaksUtf8 b p)
+unfolding BreaksUtf8
+clean-utf8 b p utf8 q r broken = absurd (broken.1 utf8)
+
 -- clean by its parts
+pub clean-text : (b : List ℕ) (p : ℕ) → is_vector 1 b p ≡ true → is_ended b p ≡ true → IsUtf8 (text b p) → IsClean (BreaksText b p)
+unfolding BreaksText
+clean-text b p sound ended utf8 q r (inl broken) = clean-vector 1 b p sound q r broken
+clean-text b p sound ended utf8 q r (inr (inl broken)) = clean-zero b p ended q r broken
+clean-text b p sound ended utf8 q r (inr (inr broken)) = clean-utf8 b p utf8 q r broken
+
 pub clean-through : (Breaks : List ℕ → ℕ → ℕ → Rule → Type 0) (b : List ℕ) (p : ℕ) → is_offset b p ≡ true → IsClean (Breaks b (target b p)) → IsClean (BreaksThrough Breaks b p)
 unfolding BreaksThrough
 clean-through Breaks b p sound clean q r (inl broken) = clean-offset b p sound q r broken
@@ -70,6 +87,24 @@ field-clean w b t f present clean =
 pub vector-clean : (w : ℕ) (b : List ℕ) (v : ℕ) → IsClean (BreaksVector w b v) → is_vector w b v ≡ true
 unfolding BreaksVector
 vector-clean w b v clean = sound_or_not (is_vector w b v) (λ wrong. clean v Vector (wrong, refl, refl))
+
+pub text-clean_vector : (b : List ℕ) (p : ℕ) → IsClean (BreaksText b p) → is_vector 1 b p ≡ true
+unfolding BreaksText
+text-clean_vector b p clean = vector-clean 1 b p (λ q r broken. clean q r (inl broken))
+
+pub text-clean_ended : (b : List ℕ) (p : ℕ) → IsClean (BreaksText b p) → is_ended b p ≡ true
+unfolding BreaksText BreaksZero
+text-clean_ended b p clean =
+    sound_or_not (is_ended b p) (λ wrong. clean p Zero (inr (inl (text-clean_vector b p clean, wrong, refl, refl))))
+
+no_text : (bs : List ℕ) → is_utf8 bs ≡ false → IsUtf8 bs → ⊥
+no_text bs wrong utf8 = let right = is_utf8-from_IsUtf8 bs utf8 in cc
+
+pub text-clean_utf8 : (b : List ℕ) (p : ℕ) → IsClean (BreaksText b p) → IsUtf8 (text b p)
+unfolding BreaksText BreaksUtf8
+text-clean_utf8 b p clean =
+    IsUtf8-from_is_utf8 (text b p) (sound_or_not (is_utf8 (text b p))
+    (λ wrong. clean p Utf8 (inr (inr (text-clean_vector b p clean, no_text (text b p) wrong, refl, refl)))))
 
 pub through-clean_offset : (Breaks : List ℕ → ℕ → ℕ → Rule → Type 0) (b : List ℕ) (p : ℕ) → IsClean (BreaksThrough Breaks b p) → is_offset b p ≡ true
 unfolding BreaksThrough
@@ -124,6 +159,18 @@ names-field base w b t f present wrong = (entry b t f, refl, (present, wrong, re
 pub names-vector : (base w : ℕ) (b : List ℕ) (v : ℕ) → is_vector w b v ≡ false → Names base (BreaksVector w b v) (record { place = base + v; rule = Vector })
 unfolding BreaksVector
 names-vector base w b v wrong = (v, refl, (wrong, refl, refl))
+
+pub names-text_vector : (base : ℕ) (b : List ℕ) (p : ℕ) → is_vector 1 b p ≡ false → Names base (BreaksText b p) (record { place = base + p; rule = Vector })
+unfolding BreaksText BreaksVector
+names-text_vector base b p wrong = (p, refl, inl (wrong, refl, refl))
+
+pub names-text_zero : (base : ℕ) (b : List ℕ) (p : ℕ) → is_vector 1 b p ≡ true → is_ended b p ≡ false → Names base (BreaksText b p) (record { place = base + p; rule = Zero })
+unfolding BreaksText BreaksZero
+names-text_zero base b p sound wrong = (p, refl, inr (inl (sound, wrong, refl, refl)))
+
+pub names-text_utf8 : (base : ℕ) (b : List ℕ) (p : ℕ) → is_vector 1 b p ≡ true → ¬ IsUtf8 (text b p) → Names base (BreaksText b p) (record { place = base + p; rule = Utf8 })
+unfolding BreaksText BreaksUtf8
+names-text_utf8 base b p sound wrong = (p, refl, inr (inr (sound, wrong, refl, refl)))
 
 -- a whole promise through an offset or a field, and with less shown
 pub judges-shows : {T : Type 0} (base : ℕ) (Breaks : ℕ → Rule → Type 0) (Shows Less : T → Type 0) (r : Result T Broken) → ((x : T) → Shows x → Less x) → Judges base Breaks Shows r → Judges base Breaks Less r

@@ -1,8 +1,11 @@
--- The numbers of a vector, one by one, and what stands in a field.
-use Rattle.std.proofs.Common.{◌≡◌, ℕ, ℤ, ◌+◌, ◌*◌, ◌<◌, true, false, List, length, get_or, Some, None, refl, arith}
+-- The numbers of a vector, one by one, the length of a string, and what stands in a field.
+use Rattle.std.proofs.Common.{◌≡◌, ℕ, ℤ, ◌+◌, ◌*◌, ◌<◌, ◌≤◌, true, false, List, length, get_or, Some, None, refl, ap, arith}
+use Rattle.std.specs.Prelude.{option_map}
+use Rattle.std.proofs.lemmas.Bool.Decides.{nat_tests}
+use Rattle.std.proofs.lemmas.Grind.{common_steps}
 use Rattle.std.specs.Int.{w32, cast_signed}
 use Rattle.std.proofs.lemmas.List.FromFn.{get_or-map-range_with_len, length-map-range_with_len}
-use Rattle.flat_layout.specs.Layout.{number_at, count, words, longs, is_absent, field_place, led_to, number_in, signed_in, place_in}
+use Rattle.flat_layout.specs.Layout.{number_at, count, words, longs, is_absent, field_place, led_to, number_in, signed_in, place_in, is_vector, text, text_in}
 
 -- as many numbers as the vector counts
 pub length-longs : (b : List ℕ) (v : ℕ) → length (longs b v) ≡ count b v
@@ -23,6 +26,13 @@ pub get_or-words : (b : List ℕ) (v i d : ℕ) → i < count b v → get_or (wo
 unfolding words
 get_or-words b v i d below =
     get_or-map-range_with_len (λ i. number_at 4 b (v + 4 + 4 * i)) 0 (count b v) i i d below (omega arith)
+
+-- as many bytes as the string counts
+pub length-text : (b : List ℕ) (p : ℕ) → is_vector 1 b p ≡ true → length (text b p) ≡ count b p
+unfolding is_vector text
+length-text b p sound =
+    let room : p + 4 + 1 * count b p ≤ length b = grind (arith, nat_tests) in
+    grind (arith, common_steps)
 
 -- an absent field has its default, and a present one what stands at its place
 pub number_in-absent : (w : ℕ) (b : List ℕ) (t f otherwise : ℕ) → is_absent b t f ≡ true → number_in w b t f otherwise ≡ otherwise
@@ -48,3 +58,15 @@ place_in-absent b t f absent = rw absent refl
 pub place_in-present : (b : List ℕ) (t f : ℕ) → is_absent b t f ≡ false → place_in b t f ≡ Some (led_to b t f)
 unfolding place_in
 place_in-present b t f present = rw present refl
+
+pub text_in-absent : (b : List ℕ) (t f : ℕ) → is_absent b t f ≡ true → text_in b t f ≡ None
+unfolding text_in
+text_in-absent b t f absent = rw absent refl
+
+pub text_in-present : (b : List ℕ) (t f : ℕ) → is_absent b t f ≡ false → text_in b t f ≡ Some (text b (led_to b t f))
+unfolding text_in
+text_in-present b t f present = rw present refl
+
+pub length-text_in : (b : List ℕ) (t f : ℕ) → is_absent b t f ≡ false → is_vector 1 b (led_to b t f) ≡ true → option_map length (text_in b t f) ≡ Some (count b (led_to b t f))
+length-text_in b t f present sound =
+    rw (text_in-present b t f present) (ap (λ n. Some n) (length-text b (led_to b t f) sound))

@@ -95,6 +95,22 @@ place_in b t f = if is_absent b t f then None else Some (led_to b t f)
 unfoldable pub elements : ℕ → List ℕ → ℕ → List ℕ
 elements w b v = slice_range b (v + 4) (v + 4 + w * count b v)
 
+-- "Strings and Vectors": the bytes of the string at p, without the zero behind them
+unfoldable pub text : List ℕ → ℕ → List ℕ
+text b p = slice_range b (p + 4) (p + 4 + count b p)
+
+-- "Strings and Vectors": a zero byte of the buffer stands right behind the string's bytes
+unfoldable pub is_ended : List ℕ → ℕ → Bool
+is_ended b p = nat_lt (p + 4 + count b p) (length b) && (number_at 1 b (p + 4 + count b p) == 0)
+
+-- "Tables": the string of field f, where the field is there
+unfoldable pub text_in : List ℕ → ℕ → ℕ → Option (List ℕ)
+text_in b t f = if is_absent b t f then None else Some (text b (led_to b t f))
+
+-- "Strings and Vectors": the place of the i-th offset in the vector of tables at v
+unfoldable pub entry_place : List ℕ → ℕ → ℕ → ℕ
+entry_place _ v i = v + 4 + 4 * i
+
 -- "Strings and Vectors": the numbers of 4 bytes of the vector at v
 unfoldable pub words : List ℕ → ℕ → List ℕ
 words b v = map (λ i. number_at 4 b (v + 4 + 4 * i)) (range_with_len 0 (count b v))

@@ -1,10 +1,10 @@
 -- Where a rule of the layout is broken, and what a call on a buffer promises. What is broken is said
 -- by the thing that breaks it, with the place in the buffer and the rule last.
-use Rattle.std.specs.Prelude.{◌≡◌, ◌⊎◌, ℕ, ◌+◌, true, false, List, Result, MatchResult}
+use Rattle.std.specs.Prelude.{◌≡◌, ◌⊎◌, ℕ, ◌+◌, true, false, List, Result, MatchResult, IsUtf8}
 use Rattle.flat_layout.specs.declared.Rule.{Rule}
-use Rattle.flat_layout.specs.declared.Rule.TheVariants.{Offset, Vtable, Field, Vector}
+use Rattle.flat_layout.specs.declared.Rule.TheVariants.{Offset, Vtable, Field, Vector, Zero, Utf8}
 use Rattle.flat_layout.specs.declared.Broken.{Broken}
-use Rattle.flat_layout.specs.Layout.{is_offset, target, is_table, entry, is_absent, is_field, field_place, is_vector}
+use Rattle.flat_layout.specs.Layout.{is_offset, target, is_table, entry, is_absent, is_field, field_place, is_vector, text, is_ended}
 
 -- the offset at p
 unfoldable pub BreaksOffset : List ℕ → ℕ → ℕ → Rule → Type 0
@@ -22,6 +22,18 @@ BreaksField w b t f q r =
 -- the vector at v, whose elements have w bytes each
 unfoldable pub BreaksVector : ℕ → List ℕ → ℕ → ℕ → Rule → Type 0
 BreaksVector w b v q r = (is_vector w b v ≡ false) × (q ≡ v) × (r ≡ Vector)
+
+-- the string at p, whose bytes are in the buffer, for want of the zero byte behind them
+unfoldable pub BreaksZero : List ℕ → ℕ → ℕ → Rule → Type 0
+BreaksZero b p q r = (is_vector 1 b p ≡ true) × (is_ended b p ≡ false) × (q ≡ p) × (r ≡ Zero)
+
+-- the string at p, whose bytes are in the buffer, and are no UTF-8
+unfoldable pub BreaksUtf8 : List ℕ → ℕ → ℕ → Rule → Type 0
+BreaksUtf8 b p q r = (is_vector 1 b p ≡ true) × (¬ IsUtf8 (text b p)) × (q ≡ p) × (r ≡ Utf8)
+
+-- the string at p
+unfoldable pub BreaksText : List ℕ → ℕ → ℕ → Rule → Type 0
+BreaksText b p q r = BreaksVector 1 b p q r ⊎ (BreaksZero b p q r ⊎ BreaksUtf8 b p q r)
 
 -- the offset at p, or what it leads to
 unfoldable pub BreaksThrough : (List ℕ → ℕ → ℕ → Rule → Type 0) → List ℕ → ℕ → ℕ → Rule → Type 0

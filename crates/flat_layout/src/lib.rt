@@ -2,9 +2,10 @@
 //!
 //! `Rule` and `Broken` are what each reader above refuses with: a rule, and the place in the file
 //! where it is broken. The definitions in `specs/` say what stands in a buffer (`Layout`: `target`,
-//! `is_table`, `place_in`, `number_in`, `longs`), where a rule is broken (`Promises`: `BreaksOffset`,
-//! `BreaksTable`, `BreaksField`, `BreaksVector`, `BreaksTo`), and what a call on a buffer promises
-//! (`Judges`: Ok exactly where nothing is broken, and each refusal names a broken rule).
+//! `is_table`, `place_in`, `number_in`, `text_in`, `longs`), where a rule is broken (`Promises`:
+//! `BreaksOffset`, `BreaksTable`, `BreaksField`, `BreaksVector`, `BreaksText`, `BreaksTo`), and what a
+//! call on a buffer promises (`Judges`: Ok exactly where nothing is broken, and each refusal names a
+//! broken rule).
 //!
 //! ```text
 //! let broken = Broken { place: 12, rule: Rule::Offset };

@@ -4,7 +4,8 @@ ghost use Rattle.flat_layout.specs.Promises.{BreaksField, BreaksTable, BreaksThr
 ghost use Rattle.flat_views.specs.Buffers.{ShowsField, buf_base, buf_bytes};
 
 use crate::buffer::Buf;
-use crate::vectors::VecView;
+use crate::strings::text_behind;
+use crate::vectors::{TableVec, VecView};
 use flat_layout::{Broken, Rule};
 
 /// A table of a buffer, whose vtable has been looked at and is sound.
@@ -49,7 +50,10 @@ fn sound_vtable(buf: Buf, place: usize) -> Option<usize>
 }
 
 impl<'a> Table<'a> {
-    ghost use Rattle.flat_layout.specs.Layout.{target};
+    ghost use Rattle.std.specs.Prelude.{option_map};
+    ghost use Rattle.flat_layout.specs.Layout.{target, text_in};
+    ghost use Rattle.flat_layout.specs.Promises.{BreaksText};
+    ghost use Rattle.flat_views.specs.TableVecs.{ShowsTables};
     ghost use Rattle.flat_views.specs.Tables.{IsTableAt, ShowsTable, base_of, bytes_of, place_of};
     ghost use Rattle.flat_views.specs.Vectors.{ShowsVector};
 
@@ -192,6 +196,32 @@ impl<'a> Table<'a> {
     {
         match self.field(field, 4)? {
             Some(at) => Ok(Some(Table::behind(self.buf, at)?)),
+            None => Ok(None),
+        }
+    }
+
+    /// The vector of tables that the field leads to. Refuses Field, Offset or Vector.
+    #[tactic(auto, using(flat_layout::proofs::Judging::exit), unfolding(flat_layout::specs::Promises::BreaksTo, flat_layout::specs::Layout::led_to))]
+    pub fn tables(self, field: u16) -> Result<Option<TableVec<'a>>, Broken>
+        ensures { let b = bytes_of self.entry in let t = place_of self.entry in let base = base_of self.entry in
+            Judges base (BreaksTo (BreaksVector 4) b t field) (ShowsTables b base t field) result }
+    {
+        match self.field(field, 4)? {
+            Some(at) => Ok(Some(TableVec::behind(self.buf, at)?)),
+            None => Ok(None),
+        }
+    }
+
+    /// The text of the string that the field leads to, without the zero byte behind it. Refuses Field,
+    /// Offset, Vector, Zero or Utf8.
+    #[tactic(auto, using(flat_layout::proofs::Judging::exit), unfolding(flat_layout::specs::Promises::BreaksTo, flat_layout::specs::Layout::led_to, flat_layout::specs::Layout::text_in))]
+    pub fn string(self, field: u16) -> Result<Option<&'a str>, Broken>
+        ensures { let b = bytes_of self.entry in let t = place_of self.entry in
+            Judges (base_of self.entry) (BreaksTo BreaksText b t field)
+            (λ o. option_map (λ s. s.now) o ≡ text_in b t field) result }
+    {
+        match self.field(field, 4)? {
+            Some(at) => Ok(Some(text_behind(self.buf, at)?)),
             None => Ok(None),
         }
     }

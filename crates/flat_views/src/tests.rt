@@ -154,3 +154,72 @@ fn hostile(rt: HostRuntime) {
     }
     assert_eq!(rt; look(&behind), Ok(()));
 }
+
+// a table with the string "\u{e9}!" and a vector of two empty tables, which share a vtable
+const NAMED: [u8; 56] = [
+    12, 0, 0, 0, 8, 0, 12, 0, 4, 0, 8, 0, 8, 0, 0, 0, 8, 0, 0, 0, 12, 0, 0, 0, 3, 0, 0, 0, 195,
+    169, 33, 0, 2, 0, 0, 0, 8, 0, 0, 0, 8, 0, 0, 0, 248, 255, 255, 255, 252, 255, 255, 255, 4, 0,
+    4, 0,
+];
+
+#[test]
+fn named(rt: HostRuntime) -> Result<(), Fail> {
+    let table = Buf::new(&NAMED, 100).root()?;
+    assert_eq!(rt; table.string(0)?, Some("\u{e9}!"));
+    assert_eq!(rt; table.string(2)?, None);
+    assert!(rt; table.tables(2)?.is_none());
+    let Some(tables) = table.tables(1)? else {
+        panic!(rt; "no tables");
+    };
+    assert_eq!(rt; tables.place(), 132);
+    assert_eq!(rt; tables.len(), 2);
+    assert_eq!(rt; tables.get(0)?.place(), 144);
+    assert_eq!(rt; tables.get(1)?.place(), 148);
+    Ok(())
+}
+
+/// Reads the string of the root table, and the first of its tables.
+fn look_named(bytes: &[u8; 56]) -> Result<(), Broken> {
+    let table = Buf::new(bytes, 100).root()?;
+    let _name = table.string(0)?;
+    if let Some(tables) = table.tables(1)?
+        && tables.len() > 0
+    {
+        let _first = tables.get(0)?;
+    }
+    Ok(())
+}
+
+#[test]
+fn hostile_named(rt: HostRuntime) {
+    let cases = [
+        // the byte behind the string is not zero
+        (28, [195, 169, 33, 1], Rule::Zero, 124),
+        // the string ends where the buffer ends
+        (24, [28, 0, 0, 0], Rule::Zero, 124),
+        (28, [195, 33, 33, 0], Rule::Utf8, 124),
+        (24, [255, 255, 255, 255], Rule::Vector, 124),
+        (32, [255, 255, 255, 255], Rule::Vector, 132),
+        (36, [3, 0, 0, 0], Rule::Offset, 136),
+    ];
+    for (at, four, rule, place) in cases {
+        let mut bytes = NAMED;
+        assert!(rt; at <= 52);
+        bytes[at..at + 4].copy_from_slice(&four);
+        assert_eq!(rt; look_named(&bytes), Err(Broken { place, rule }));
+    }
+    assert_eq!(rt; look_named(&NAMED), Ok(()));
+}
+
+#[test]
+fn meter(rt: HostRuntime) {
+    let mut meter = Meter::new(3, 100);
+    let refusal = Err(Broken {
+        place: 100,
+        rule: Rule::Weight,
+    });
+    assert_eq!(rt; meter.spend(8), Ok(()));
+    assert_eq!(rt; meter.spend(5), refusal);
+    assert_eq!(rt; meter.spend(4), Ok(()));
+    assert_eq!(rt; meter.spend(1), refusal);
+}

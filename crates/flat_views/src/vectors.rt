@@ -4,6 +4,7 @@ ghost use Rattle.flat_layout.specs.Promises.{BreaksThrough, BreaksVector, Judges
 ghost use Rattle.flat_views.specs.Buffers.{buf_base, buf_bytes};
 
 use crate::buffer::Buf;
+use crate::tables::Table;
 use flat_layout::{Broken, Rule};
 
 /// A vector of a buffer, whose elements end in the buffer.
@@ -96,5 +97,55 @@ impl<'a> VecView<'a> {
     {
         self.buf
             .part(self.place + 4, self.width as usize * self.len)
+    }
+}
+
+/// A vector of offsets to tables, which end in the buffer. What they lead to is looked at by `get`.
+#[derive(Clone, Copy)]
+pub struct TableVec<'a> {
+    entries: VecView<'a>,
+    pub ghost wide: { entries.width ≡ 4 },
+}
+
+impl<'a> TableVec<'a> {
+    ghost use Rattle.flat_layout.specs.Layout.{entry_place, target};
+    ghost use Rattle.flat_layout.specs.Promises.{BreaksTable};
+    ghost use Rattle.flat_views.specs.TableVecs.{IsTableVecAt, tables_base, tables_bytes, tables_place};
+    ghost use Rattle.flat_views.specs.Tables.{IsTableAt};
+
+    /// The vector of tables that the offset at the place `at` leads to. Refuses Offset or Vector.
+    #[tactic(auto, using(flat_layout::proofs::Judging::exit))]
+    pub(crate) fn behind(buf: Buf<'a>, at: usize) -> Result<TableVec<'a>, Broken>
+        requires { at ≤ length (buf_bytes buf) }
+        ensures { let b = buf_bytes buf.entry in let base = buf_base buf.entry in
+            Judges base (BreaksThrough (BreaksVector 4) b at) (IsTableVecAt b base (target b at)) result }
+    {
+        let entries = VecView::behind(buf, at, 4)?;
+        Ok(TableVec { entries })
+    }
+
+    /// How many tables there are.
+    pub fn len(self) -> usize
+        ensures { result ≡ count (tables_bytes self.entry) (tables_place self.entry) }
+    {
+        self.entries.len()
+    }
+
+    /// Where the vector stands in the file: its count.
+    pub fn place(self) -> u64
+        ensures { result ≡ tables_base self.entry + tables_place self.entry }
+    {
+        self.entries.place()
+    }
+
+    /// The i-th table. Refuses Offset at its entry in the vector, or Vtable at the table.
+    #[tactic(auto, using(std::proofs::lemmas::Bool::Decides::nat_tests), unfolding(flat_layout::specs::Layout::is_vector, flat_layout::specs::Layout::entry_place))]
+    pub fn get(self, i: usize) -> Result<Table<'a>, Broken>
+        requires { i < count (tables_bytes self) (tables_place self) }
+        ensures { let b = tables_bytes self.entry in let base = tables_base self.entry in
+            let entry = entry_place b (tables_place self.entry) i in
+            Judges base (BreaksThrough BreaksTable b entry) (IsTableAt b base (target b entry)) result }
+    {
+        Table::behind(self.entries.buf, self.entries.place + 4 + 4 * i)
     }
 }
