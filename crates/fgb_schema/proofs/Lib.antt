@@ -4,3 +4,4 @@ pub mod Links
 pub mod HeaderPaths
 pub mod GeometryPaths
 pub mod FeaturePaths
+pub mod Light

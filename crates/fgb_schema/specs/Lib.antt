@@ -1,3 +1,4 @@
 pub mod Tables
 pub mod Paths
 pub mod Records
+pub mod Weights
