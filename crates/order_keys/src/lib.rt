@@ -1,4 +1,4 @@
-//! Coordinates as the bit patterns of IEEE 754 binary64 numbers (section 3.4), compared by whole-number
+//! Coordinates as the bit patterns of IEEE 754 binary64 numbers (subclause 3.4), compared by whole-number
 //! keys in place of floating point, the boxes made of them, and the words that spell both.
 //!
 //! For the layers above, [`Coord`] and [`Bounds`] are plain values, and `specs/` has what is said of them:
