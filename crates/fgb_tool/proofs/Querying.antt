@@ -23,7 +23,7 @@ use Rattle.fgb_tool.specs.declared.stop.Stop.TheVariants.{Refused, SourceFailed,
 use Rattle.fgb_tool.specs.declared.walk.Search.{Search}
 use Rattle.fgb_tool.specs.Pages.{Owes}
 use Rattle.fgb_tool.specs.Reading.{Fetches, FetchesPart}
-use Rattle.fgb_tool.specs.Starts.{IsOfStart, IsHeaderOf, BreaksHeader}
+use Rattle.fgb_tool.specs.Starts.{IsOfStart, IsHeaderOf, BreaksHeader, BreaksInFront}
 use Rattle.fgb_tool.specs.Walks.{IsSearch, Stands, StandsPart, StandsAt, Ends}
 use Rattle.fgb_tool.specs.Runs.{Answers, AnswersPart, none, some, in_front, behind, Refuses}
 
@@ -125,9 +125,9 @@ pub part_in_front : (image : List ℕ) (query : Bounds) (o : Sink) → AnswersPa
 unfolding lines
 part_in_front image query o = record { pieces = []; passes = none; written = appends_part o o [] (appends_nothing o) }
 
-pub refused_in_front : (image : List ℕ) (query : Bounds) (o : Sink) (broken : Broken) → BreaksFile image broken.place broken.rule → Refuses image query o o broken
+pub refused_in_front : (image : List ℕ) (query : Bounds) (o : Sink) (broken : Broken) → BreaksInFront image broken.place broken.rule → Refuses image query o o broken
 unfolding lines
-refused_in_front image query o broken breaks = record { pieces = []; refused = in_front breaks; breaks = breaks; written = appends_nothing o }
+refused_in_front image query o broken breaks = record { pieces = []; refused = in_front breaks; breaks = breaks.breaks; written = appends_nothing o }
 
 -- ## What is asked
 
@@ -215,14 +215,20 @@ module _ (image : List ℕ) (size len : ℕ) (is : length image ≡ size) (start
       → ReadsFront (IsInside (12 + len) size) s2 s3 (range_with_len (12 + len) (size - (12 + len))) → ReadsFront (IsDeclared image) s s3 (range_with_len 0 (length image))
   front_asked unindexed first second third = front_along _ _ front_whole (reads_then_front (two first second) (front_weaken (IsInside (12 + len) size) (IsDeclared image) (declared_features unindexed) third))
 
-  pub header_breaks : (p : ℕ) (r : Rule) → BreaksHeader image p r → BreaksFile image p r
-  header_breaks p r b = subst (λ n. BreaksFile image n r) (sym b.place) (in_header start b.broken)
+  pub header_breaks : (p : ℕ) (r : Rule) → BreaksHeader image p r → BreaksInFront image p r
+  header_breaks p r b = record {
+    breaks = subst (λ n. BreaksFile image n r) (sym b.place) (in_header start b.broken);
+    unreached = λ is. is.header.clean b.inner r b.broken;
+  }
 
   pub is_header : (shown : Header) → IsHeaderOf image shown → IsHeader image
   is_header shown of = record { start = start; clean = of.clean }
 
-  pub index_breaks : (shown : Header) → IsHeaderOf image shown → has_index shown ≡ true → BreaksFile image (12 + len) Indexed
-  index_breaks shown of has = subst (λ n. BreaksFile image (12 + n) Indexed) (sym same) (indexed (is_header shown of) (ap has_index (sym of.shows) ∙ has))
+  pub index_breaks : (shown : Header) → IsHeaderOf image shown → has_index shown ≡ true → BreaksInFront image (12 + len) Indexed
+  index_breaks shown of has = let there = ap has_index (sym of.shows) ∙ has in record {
+    breaks = subst (λ n. BreaksFile image (12 + n) Indexed) (sym same) (indexed (is_header shown of) there);
+    unreached = λ is. let absent = is.unindexed in cc;
+  }
 
   pub is_search : (shown : Header) (search : Search) → IsHeaderOf image shown → has_index shown ≡ false → search.outer ≡ shown.geometry_type → search.first ≡ 12 + len → IsSearch image search size
   is_search shown sought of unindexed outer first = record {

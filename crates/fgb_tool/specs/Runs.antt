@@ -8,6 +8,7 @@ use Rattle.fgb_outside.specs.Asked.{Reads, ReadsFront}
 use Rattle.fgb_outside.specs.Sink.{Sink, Appends, AppendsPart}
 use Rattle.fgb_file.specs.File.{outer_type, IsUnindexed, IsFeature, Walks, IsFile, BreaksFile, BreaksFeature, IsDeclared, IsValid}
 use Rattle.fgb_file.specs.Found.{answer}
+use Rattle.fgb_tool.specs.Starts.{BreaksInFront}
 use Rattle.fgb_tool.specs.declared.stop.Stop.{Stop}
 use Rattle.fgb_tool.specs.declared.stop.Stop.TheVariants.{Refused, SourceFailed, SinkFailed, Memory}
 use Rattle.fgb_tool.specs.Texts.{Tells, refusal_text, source_text, sink_text, memory_text}
@@ -29,9 +30,10 @@ pub record AnswersPart (image : List ℕ) (query : Bounds) (o o' : Sink) : Type 
   pub passes : Passes image pieces
   pub written : AppendsPart o o' (answer (outer_type image) query pieces)
 
--- the file is refused by this rule at this place, in front of all features or at the one right behind these
+-- the file is refused by this rule at this place: in front of all features, where none is reached, or at the feature
+-- right behind these
 pub data RefusedAt (image : List ℕ) (broken : Broken) : List (List ℕ) → Type 0 where
-  in_front : BreaksFile image broken.place broken.rule → RefusedAt image broken []
+  in_front : BreaksInFront image broken.place broken.rule → RefusedAt image broken []
   behind : {pieces : List (List ℕ)} {at : ℕ} → IsUnindexed image → Walks image pieces at → AllByRecursion (IsFeature (outer_type image)) pieces
       → BreaksFile image broken.place broken.rule → BreaksFeature image at broken.place broken.rule → RefusedAt image broken pieces
 

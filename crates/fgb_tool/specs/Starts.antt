@@ -4,7 +4,7 @@ use Rattle.fgb_outside.specs.Asked.{IsInside}
 use Rattle.flat_layout.specs.declared.Rule.{Rule}
 use Rattle.fgb_schema.specs.Paths.{Breaks, header_root}
 use Rattle.fgb_schema.specs.Records.{Header, header_of}
-use Rattle.fgb_file.specs.File.{magic, Differs, header_buffer}
+use Rattle.fgb_file.specs.File.{magic, Differs, header_buffer, IsUnindexed, BreaksFile}
 
 -- a part of the start of a source of this size, which has a start
 pub record IsOfStart (size : ℕ) (pair : ℕ × ℕ) : Type 0 where
@@ -26,3 +26,8 @@ pub record BreaksHeader (image : List ℕ) (p : ℕ) (r : Rule) : Type 0 where
   pub inner : ℕ
   pub place : p ≡ 12 + inner
   pub broken : Breaks (header_buffer image) header_root inner r
+
+-- rule r is broken at place p of the file, which lets no feature be reached
+pub record BreaksInFront (image : List ℕ) (p : ℕ) (r : Rule) : Type 0 where
+  pub breaks : BreaksFile image p r
+  pub unreached : IsUnindexed image → ⊥

@@ -4,9 +4,9 @@ ghost use Rattle.std.specs.List.{range_with_len};
 ghost use Rattle.fgb_outside.specs.Source.{HasSize, IfTold, Rose};
 ghost use Rattle.fgb_outside.specs.Asked.{IsInside, Reads, ReadsFront};
 ghost use Rattle.fgb_points.specs.Headers.{shown};
-ghost use Rattle.fgb_file.specs.File.{BreaksFile, IsStart, header_size};
+ghost use Rattle.fgb_file.specs.File.{IsStart, header_size};
 ghost use Rattle.fgb_tool.specs.Causes.{IfRefused};
-ghost use Rattle.fgb_tool.specs.Starts.{BreaksHeader, IsHeaderOf, IsOfStart, ShowsMagic};
+ghost use Rattle.fgb_tool.specs.Starts.{BreaksHeader, BreaksInFront, IsHeaderOf, IsOfStart, ShowsMagic};
 
 use crate::stop::Stop;
 use byteorder::{ByteOrder, LittleEndian};
@@ -66,7 +66,7 @@ pub(crate) fn read_start<S: RangeSource>(file: &mut S, size: u64) -> Result<usiz
     requires { HasSize (S.seen file.old) size }
     ensures start { IfOk result (λ len. IfTold (S.seen file.old) (λ image. IsStart image × (len ≡ header_size image))) }
     ensures sized { IfOk result (λ len. (len ≤ 10485760) × (12 + len ≤ size) × (size ≤ 2 ^ 48)) }
-    ensures refused { IfRefused result (λ broken. IfTold (S.seen file.old) (λ image. BreaksFile image broken.place broken.rule)) }
+    ensures refused { IfRefused result (λ broken. IfTold (S.seen file.old) (λ image. BreaksInFront image broken.place broken.rule)) }
     ensures reads { OnOk result (Reads (IsOfStart size) (S.seen file.old) (S.seen file.new) (range_with_len 0 12)) }
     ensures front { OnErr result (ReadsFront (IsOfStart size) (S.seen file.old) (S.seen file.new) (range_with_len 0 12)) }
     ensures failed { IsErrOf result Stop.SourceFailed → Rose (S.seen file.old).faults (S.seen file.new).faults }

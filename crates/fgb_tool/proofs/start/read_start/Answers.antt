@@ -1,16 +1,15 @@
 use Rattle.std.proofs.Common.{◌≡◌, ◌⊎◌, inl, inr, ◌+◌, ◌<◌, length, take, drop, ◌∙◌, arith}
 use Rattle.flat_layout.specs.Layout.{number_at}
-use Rattle.fgb_file.specs.File.{file_size, short}
 use Rattle.fgb_outside.proofs.Asking.{reads_front}
-use Rattle.fgb_tool.proofs.Starting.{at_refusal, on_err, start_reads, start_front, refuse_magic, refuse_size, start_sound, last_number}
+use Rattle.fgb_tool.proofs.Starting.{at_refusal, on_err, start_reads, start_front, refuse_large, refuse_short, refuse_magic, refuse_size, start_sound, last_number}
 use Rattle.fgb_tool.proofs.start.read_start.Goals as goal
 use Rattle.fgb_tool.proofs.start.read_start.Goals.{then-header-gt-MAX_HEADER-via-then-header-gt-MAX_HEADER, then-header-gt-MAX_HEADER-via-else-header-gt-MAX_HEADER+then-header-size}
 
 pub returns-then-size-gt-MAX_FILE-clause-refused : goal.returns-then-size-gt-MAX_FILE-clause-refused
-returns-then-size-gt-MAX_FILE-clause-refused g c = at_refusal _ _ _ c.refused.ensures (λ image told. file_size (omega (arith, c.requires.image image told, c.if-size-gt-MAX_FILE.true)))
+returns-then-size-gt-MAX_FILE-clause-refused g c = at_refusal _ _ _ c.refused.ensures (λ image told. refuse_large image (omega (arith, c.requires.image image told, c.if-size-gt-MAX_FILE.true)))
 
 pub returns-then-size-clause-refused : goal.returns-then-size-clause-refused
-returns-then-size-clause-refused g c = at_refusal _ _ _ c.refused-then-size.ensures (λ image told. rw (← c.requires.image image told) (short (omega (arith, c.requires.image image told, c.if-size.true))))
+returns-then-size-clause-refused g c = at_refusal _ _ _ c.refused-then-size.ensures (λ image told. rw (← c.requires.image image told) (refuse_short image (omega (arith, c.requires.image image told, c.if-size.true))))
 
 pub returns-in_err-read_all-clause-front : goal.returns-in_err-read_all-clause-front
 returns-in_err-read_all-clause-front g c = on_err _ _ (start_front c.args.size _ (omega arith) (omega arith) c.in_err-read_all.ensures.front)
