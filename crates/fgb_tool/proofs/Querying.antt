@@ -249,6 +249,14 @@ pub either_way : {T E : Type 0} (r : Result T E) (A : Type 0) (B : E → Type 0)
 either_way (Ok x) A B Q f g a b = f a
 either_way (Err e) A B Q f g a b = g e b
 
+pub either : {T E : Type 0} (r : Result T E) (A B Q : Type 0) → (A → Q) → (B → Q) → OnOk r A → OnErr r B → Q
+either (Ok x) A B Q f g a b = f a
+either (Err e) A B Q f g a b = g b
+
+pub both_ok : {T E : Type 0} (r : Result T E) (A B : Type 0) → OnOk r A → OnOk r B → OnOk r (A × B)
+both_ok (Ok x) A B a b = (a, b)
+both_ok (Err e) A B a b = tt
+
 -- a search begins with an empty window and an empty page
 pub begins : (w : Held) (page : List ℕ) (search : Search) (end : ℕ) (image : List ℕ) (o : Sink) → w ≡ record { at = search.first; bytes = []; end = end } → page ≡ []
     → IsSearch image search end → IsSearch image search w.end × Stands image search w.at 0 o o page

@@ -9,7 +9,7 @@ ghost use Rattle.fgb_tool.specs.Runs.{Answers, AnswersPart, AsksAll, AsksFront, 
 
 use crate::page::Page;
 use crate::start::{START, read_header, read_start, refused};
-use crate::stop::Stop;
+use crate::stop::{Stop, is_cut_off};
 use crate::walk::{Search, walk};
 use fgb_outside::{RangeSource, Sink};
 use flat_views::Rule;
@@ -70,6 +70,11 @@ fn search<S: RangeSource, W: Sink>(
     let mut window = Window::new(alloc, search.first, end);
     let mut page = Page::new(alloc);
     let walked = walk(search, &mut window, &mut page, file, out);
-    page.write(out)?;
+    let written = page.write(out);
+    // A refusal says that the lines before it were written; any other stop came before this write.
+    if is_cut_off(walked) {
+        return walked;
+    }
+    written?;
     walked
 }

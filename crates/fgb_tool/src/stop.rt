@@ -1,6 +1,6 @@
 // Why the work stops before its end.
-ghost use Rattle.std.specs.Prelude.{◌≡◌};
-ghost use Rattle.fgb_tool.specs.Causes.{IsSourceCause, IsSinkCause};
+ghost use Rattle.std.specs.Prelude.{◌≡◌, true, false, OnOk};
+ghost use Rattle.fgb_tool.specs.Causes.{AtRefusal, IfRefused, IsSourceCause, IsSinkCause};
 ghost use Rattle.fgb_tool.specs.declared.stop.Stop.TheVariants.{Memory, Refused};
 
 use fgb_outside::{SinkError, SourceError};
@@ -18,6 +18,28 @@ pub(crate) enum Stop {
     SinkFailed,
     /// There was no memory.
     Memory,
+}
+
+impl Stop {
+    /// Whether the file is refused.
+    pub(crate) fn is_refusal(self) -> bool
+        ensures { result ≡ false → AtRefusal self (λ _. ⊥) }
+    {
+        match self {
+            Stop::Refused(_) => true,
+            _ => false,
+        }
+    }
+}
+
+/// Whether the work stopped before its end, and not at a refusal.
+pub(crate) fn is_cut_off(walked: Result<(), Stop>) -> bool
+    ensures { result ≡ true → OnOk walked ⊥ × IfRefused walked (λ _. ⊥) }
+{
+    match walked {
+        Ok(()) => false,
+        Err(stop) => !stop.is_refusal(),
+    }
 }
 
 impl From<Broken> for Stop {

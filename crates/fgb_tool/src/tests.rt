@@ -227,19 +227,22 @@ fn changed(alloc: Global, changes: &[(usize, u8)]) -> Result<Vec<u8>, AllocError
     Ok(file)
 }
 
-/// Queries these bytes, and wants this refusal, with these lines before it.
+/// Queries these bytes, and wants this refusal, with these lines before it. Gives how many positions were
+/// asked for.
 fn refuses<R: Abort + AllocGlobal>(
     rt: &R,
     image: &[u8],
     lines: &str,
     refusal: &str,
-) -> Result<(), Fail> {
+) -> Result<u64, Fail> {
     let alloc = rt.alloc();
     let mut file = MemorySource::new(alloc, image, &[])?;
     let ran = run_over(alloc, &QUERY, &mut file, &[])?;
     assert_eq!(rt; (ran.status, ran.out()?, ran.err()?), (1, lines, refusal));
-    assert!(rt; front_of(file.asked()).is_some(), "{refusal}");
-    Ok(())
+    let Some(asked) = front_of(file.asked()) else {
+        panic!(rt; "{refusal}");
+    };
+    Ok(asked)
 }
 
 /// Changes the file of the three points at these places, and wants this refusal. The header's vtable stands at
@@ -252,7 +255,8 @@ fn breaks<R: Abort + AllocGlobal>(
 ) -> Result<(), Fail> {
     let file = changed(rt.alloc(), changes)?;
     let text = format!(in rt.alloc(); "refused: {refusal}\n")?;
-    refuses(rt, &file, "", &text)
+    refuses(rt, &file, "", &text)?;
+    Ok(())
 }
 
 #[test]
@@ -264,7 +268,11 @@ fn a_broken_header_is_refused(rt: HostRuntime) -> Result<(), Fail> {
     breaks(&rt, &[(16, 11)], "Vtable at 28")?;
     breaks(&rt, &[(24, 5)], "Field at 24")?;
     breaks(&rt, &[(32, 8)], "Kind at 28")?;
-    refuses(&rt, &INDEXED, "", "refused: Indexed at 60\n")
+    let asked = refuses(&rt, &INDEXED, "", "refused: Indexed at 60\n")?;
+    assert_eq!(rt; asked, 60);
+    let asked = refuses(&rt, &EMPTY[..5], "", "refused: Short at 5\n")?;
+    assert_eq!(rt; asked, 0);
+    Ok(())
 }
 
 #[test]
@@ -291,7 +299,8 @@ fn a_broken_feature_is_refused(rt: HostRuntime) -> Result<(), Fail> {
     breaks(&rt, &[(122, 0xF0), (123, 0xFF)], "NotFinite at 116")?;
     breaks(&rt, &[(37, 1)], "FeaturePastEnd at 36")?;
     let last = changed(rt.alloc(), &[(212, 85)])?;
-    refuses(&rt, &last, BOTH, "refused: FeaturePastEnd at 212\n")
+    refuses(&rt, &last, BOTH, "refused: FeaturePastEnd at 212\n")?;
+    Ok(())
 }
 
 /// The refusal of the first `len` bytes of the file of the three points, if they are refused.
@@ -318,7 +327,10 @@ fn check_front<R: Abort + AllocGlobal>(rt: &R, image: &[u8]) -> Result<(), Fail>
         _ => BOTH,
     };
     match refusal_of(rt.alloc(), image.len())? {
-        Some(refusal) => refuses(rt, image, lines, &refusal),
+        Some(refusal) => {
+            refuses(rt, image, lines, &refusal)?;
+            Ok(())
+        }
         None => answers(rt, &QUERY, image, lines),
     }
 }
