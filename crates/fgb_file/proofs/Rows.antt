@@ -1,13 +1,14 @@
 -- The definitions at worked files, computed: the file of three Points, a Point at the negative zero, and the two files
 -- without features.
-use Rattle.std.proofs.Common.{◌≡◌, ℕ, ◌++◌, List, [], ◌∷◌, codes, refl}
+use Rattle.std.proofs.Common.{◌≡◌, ℕ, ◌++◌, List, [], ◌∷◌, None, false, codes, refl}
 use Rattle.std.specs.List.{concat}
 use Rattle.order_keys.specs.declared.bounds.Bounds.{Bounds}
 use Rattle.std.specs.Fmt.{digits}
 use Rattle.order_keys.specs.Keys.{key_of}
-use Rattle.flat_layout.specs.Layout.{number_at, target, is_absent, slot, entry, field_place, vtable_place, vtable_size, led_to, place_in, number_in, longs, count}
+use Rattle.flat_layout.specs.Layout.{number_at, target, is_absent, slot, entry, field_place, vtable_place, vtable_size, led_to, place_in, number_in, text_in, longs, count}
 use Rattle.fgb_schema.specs.Tables.{type_of}
-use Rattle.fgb_schema.specs.Records.{header_of, header_at, shape_at}
+use Rattle.fgb_schema.specs.Headers.{header_of, header_at}
+use Rattle.fgb_schema.specs.Features.{shape_at}
 use Rattle.fgb_file.specs.File.{header_end, header_buffer}
 use Rattle.fgb_file.specs.Found.{found, line, lines}
 
@@ -45,8 +46,23 @@ header_ends : header_end (start_and_header ++ concat three) ≡ 36
 unfolding number_at
 header_ends = refl
 
-header_shown : header_of (header_buffer (start_and_header ++ concat three)) ≡ record { geometry_type = 1; features_count = 0; node_size = 16 }
-unfolding number_at target vtable_place vtable_size slot entry is_absent field_place number_in header_at
+header_shown : header_of (header_buffer (start_and_header ++ concat three)) ≡ record {
+  name = None;
+  envelope = [];
+  geometry_type = 1;
+  has_z = false;
+  has_m = false;
+  has_t = false;
+  has_tm = false;
+  columns = [];
+  features_count = 0;
+  node_size = 16;
+  crs = None;
+  title = None;
+  description = None;
+  metadata = None;
+}
+unfolding number_at target vtable_place vtable_size slot entry is_absent field_place number_in text_in place_in header_at
 header_shown = refl
 
 three_found : lines (found 1 ten three) ≡ codes "0 0 84 3ff0000000000000 4000000000000000 3ff0000000000000 4000000000000000\n1 88 84 4024000000000000 4024000000000000 4024000000000000 4024000000000000\n"

@@ -4,8 +4,9 @@ use Rattle.std.specs.List.{AllByRecursion}
 use Rattle.std.proofs.lemmas.Bool.{cases_Bool, cases_lt, cases_eq}
 use Rattle.flat_layout.specs.declared.Rule.{Rule}
 use Rattle.flat_layout.specs.Layout.{number_at}
-use Rattle.fgb_schema.specs.Paths.{Breaks, feature_root}
-use Rattle.fgb_schema.specs.Records.{header_of, has_index}
+use Rattle.fgb_schema.specs.Paths.{feature_root}
+use Rattle.fgb_schema.specs.Weights.{BreaksBuffer}
+use Rattle.fgb_schema.specs.Headers.{header_of, has_index}
 use Rattle.fgb_file.specs.File.{magic, header_size, header_end, header_buffer, outer_type, IsSized, IsStart, IsHeader, IsUnindexed, IsFeature, Walks, IsFile, BreaksFeature, past_end, too_large, inside, file_size, short, magic_byte, header_size_past, in_header, indexed, in_feature, IsValid}
 use Rattle.fgb_file.proofs.Walk.{walk_start, walk_step, walk_whole, piece_at, piece_framed, all-append}
 use Rattle.fgb_file.proofs.Bytes.{slice-slice, length-slice}
@@ -74,7 +75,7 @@ module _ (image : List ℕ) (valid : IsValid image) where
       ap (λ n. slice_range (piece_at image at) 4 n) (length-slice image at (4 + size) le) ∙ slice-slice image at (4 + size) 4 size (omega arith) in
       record {
         framed = piece_framed image at room (small ws at walk early);
-        clean = λ q r broken. next_sound ws at walk early (at + 4 + q) r (inside room (small ws at walk early) (subst (λ b. Breaks b (feature_root (outer_type image)) q r) buffer broken));
+        clean = λ q r broken. next_sound ws at walk early (at + 4 + q) r (inside room (small ws at walk early) (subst (λ b. BreaksBuffer b (feature_root (outer_type image)) q r) buffer broken));
       }
 
   walk_on : (fuel : ℕ) (ws : List (List ℕ)) (at : ℕ) → Walks image ws at → AllByRecursion (IsFeature (outer_type image)) ws → length image - at ≤ fuel → (fs : List (List ℕ)) × IsFile image fs

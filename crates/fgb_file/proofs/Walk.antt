@@ -7,7 +7,8 @@ use Rattle.std.proofs.lemmas.List.Folds.{concat-append}
 use Rattle.std.proofs.lemmas.Bool.{true≢false}
 use Rattle.flat_layout.specs.declared.Rule.{Rule}
 use Rattle.flat_layout.specs.Layout.{number_at}
-use Rattle.fgb_schema.specs.Paths.{Breaks, feature_root}
+use Rattle.fgb_schema.specs.Paths.{feature_root}
+use Rattle.fgb_schema.specs.Weights.{BreaksBuffer}
 use Rattle.fgb_file.specs.File.{header_end, outer_type, IsStart, IsUnindexed, IsPiece, IsFeature, Walks, IsFile, BreaksFeature, past_end, too_large, inside, BreaksFile, file_size, short, magic_byte, header_size_past, in_header, indexed, in_feature}
 use Rattle.fgb_file.proofs.Bytes.{slice_is, length-slice, number_at-slice, slice-slice, number_at-drop, number_at-append}
 use Rattle.fgb_file.proofs.Pieces.{pieces_front}
@@ -91,7 +92,7 @@ module _ (image : List ℕ) where
           absurd_at : (q : ℕ) (r : Rule) → BreaksFeature image at q r → ⊥
           absurd_at q r (past_end long) = omega (arith, long, fits, size, each.0.framed.sized)
           absurd_at q r (too_large room large) = omega (arith, large, size, each.0.framed.small)
-          absurd_at q r (inside {q = k} {r = rule} room small broken) = each.0.clean k rule (subst (λ b. Breaks b (feature_root (outer_type image)) k rule) buffer broken)
+          absurd_at q r (inside {q = k} {r = rule} room small broken) = each.0.clean k rule (subst (λ b. BreaksBuffer b (feature_root (outer_type image)) k rule) buffer broken)
             where
               buffer : slice_range image (at + 4) (at + 4 + number_at 4 image at) ≡ slice_range p 4 (length p)
               buffer =

@@ -6,8 +6,9 @@ use Rattle.flat_layout.specs.Layout.{number_at}
 use Rattle.flat_layout.specs.declared.Rule.{Rule}
 use Rattle.flat_layout.specs.declared.Rule.TheVariants.{FileSize, Short, Magic, HeaderSize, Indexed, FeaturePastEnd, FeatureSize}
 use Rattle.fgb_outside.specs.Asked.{IsInside}
-use Rattle.fgb_schema.specs.Paths.{Breaks, header_root, feature_root}
-use Rattle.fgb_schema.specs.Records.{header_of, has_index}
+use Rattle.fgb_schema.specs.Paths.{header_root, feature_root}
+use Rattle.fgb_schema.specs.Weights.{BreaksBuffer}
+use Rattle.fgb_schema.specs.Headers.{header_of, has_index}
 
 -- the first seven bytes; any eighth is read
 abbrev pub magic : List ℕ
@@ -41,7 +42,7 @@ pub record IsStart (image : List ℕ) : Type 0 where
 -- the start and the header break no rule
 pub record IsHeader (image : List ℕ) : Type 0 where
   pub start : IsStart image
-  pub clean : (q : ℕ) (r : Rule) → Breaks (header_buffer image) header_root q r → ⊥
+  pub clean : (q : ℕ) (r : Rule) → BreaksBuffer (header_buffer image) header_root q r → ⊥
 
 -- besides, the file has no index
 pub record IsUnindexed (image : List ℕ) : Type 0 where
@@ -56,7 +57,7 @@ pub record IsPiece (piece : List ℕ) : Type 0 where
 -- a piece whose buffer breaks no rule under this geometry type
 pub record IsFeature (outer : ℕ) (piece : List ℕ) : Type 0 where
   pub framed : IsPiece piece
-  pub clean : (q : ℕ) (r : Rule) → Breaks (slice_range piece 4 (length piece)) (feature_root outer) q r → ⊥
+  pub clean : (q : ℕ) (r : Rule) → BreaksBuffer (slice_range piece 4 (length piece)) (feature_root outer) q r → ⊥
 
 -- going from one size prefix to the next passes these pieces, and then stands at this place
 pub record Walks (image : List ℕ) (pieces : List (List ℕ)) (at : ℕ) : Type 0 where
@@ -82,7 +83,7 @@ pub data BreaksFeature (image : List ℕ) (at : ℕ) : ℕ → Rule → Type 0 w
   past_end : length image < at + 4 + number_at 4 image at → BreaksFeature image at at FeaturePastEnd
   too_large : at + 4 ≤ length image → 268435456 < number_at 4 image at → BreaksFeature image at at FeatureSize
   inside : {q : ℕ} {r : Rule} → at + 4 + number_at 4 image at ≤ length image → number_at 4 image at ≤ 268435456
-      → Breaks (slice_range image (at + 4) (at + 4 + number_at 4 image at)) (feature_root (outer_type image)) q r
+      → BreaksBuffer (slice_range image (at + 4) (at + 4 + number_at 4 image at)) (feature_root (outer_type image)) q r
       → BreaksFeature image at (at + 4 + q) r
 
 -- rule r is broken at place q of the file: the rules of the start in their order, then those of the header, then that
@@ -92,7 +93,7 @@ pub data BreaksFile (image : List ℕ) : ℕ → Rule → Type 0 where
   short : length image < 12 → BreaksFile image (length image) Short
   magic_byte : {q : ℕ} → IsSized image → Differs image q → BreaksFile image q Magic
   header_size_past : IsSized image → take 7 image ≡ magic → (10485760 < header_size image) ⊎ (length image < header_end image) → BreaksFile image 8 HeaderSize
-  in_header : {q : ℕ} {r : Rule} → IsStart image → Breaks (header_buffer image) header_root q r → BreaksFile image (12 + q) r
+  in_header : {q : ℕ} {r : Rule} → IsStart image → BreaksBuffer (header_buffer image) header_root q r → BreaksFile image (12 + q) r
   indexed : IsHeader image → has_index (header_of (header_buffer image)) ≡ true → BreaksFile image (header_end image) Indexed
   in_feature : {pieces : List (List ℕ)} {at q : ℕ} {r : Rule} → IsUnindexed image → Walks image pieces at → at < length image
       → BreaksFeature image at q r → BreaksFile image q r

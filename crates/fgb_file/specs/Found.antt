@@ -4,7 +4,7 @@ use Rattle.std.specs.List.{filter, flat_map}
 use Rattle.order_keys.specs.declared.bounds.Bounds.{Bounds}
 use Rattle.order_keys.specs.Keys.{digits_of}
 use Rattle.order_keys.specs.Boxes.{meets}
-use Rattle.fgb_schema.specs.Records.{feature_of, own_box}
+use Rattle.fgb_schema.specs.Features.{feature_of, own_box}
 
 -- a feature of a file: its number, the place of its size prefix from the first feature on, the size of its buffer,
 -- and its own box

@@ -9,7 +9,7 @@ use Rattle.flat_layout.specs.Layout.{count, longs, is_absent, led_to}
 use Rattle.flat_layout.specs.Promises.{IsClean}
 use Rattle.flat_layout.proofs.Numbers.{length-longs, place_in-absent, place_in-present}
 use Rattle.fgb_schema.specs.Paths.{BreaksCoordinate, BreaksPairs, odd, several, infinite}
-use Rattle.fgb_schema.specs.Records.{points, shape_at, feature_at}
+use Rattle.fgb_schema.specs.Features.{points, shape_at, feature_at}
 
 module _ (b : List ℕ) (v : ℕ) where
   pub none_points : count b v ≡ 0 → points (longs b v) ≡ []

@@ -5,7 +5,8 @@ ghost use Rattle.flat_views.specs.Tables.{base_of, bytes_of, place_of};
 ghost use Rattle.flat_views.specs.Vectors.{vector_base, vector_bytes, vector_place, vector_width};
 ghost use Rattle.fgb_schema.specs.Tables.{type_of};
 ghost use Rattle.fgb_schema.specs.Paths.{Breaks, BreaksCoordinate, BreaksPairs, BreaksType, feature_part, feature_root, geometry_part};
-ghost use Rattle.fgb_schema.specs.Records.{feature_at, feature_of, shape_at, own_box as own_box_of, point_box as point_box_of, points};
+ghost use Rattle.fgb_schema.specs.Weights.{BreaksBuffer};
+ghost use Rattle.fgb_schema.specs.Features.{feature_at, feature_of, shape_at, own_box as own_box_of, point_box as point_box_of, points};
 
 use flat_views::{Broken, Buf, Rule, Table, VecView};
 use order_keys::{Bounds, Coord};
@@ -26,7 +27,7 @@ const TYPE: u16 = 6;
 pub fn own_box(bytes: &[u8], base: u64, geometry_type: u8) -> Result<Bounds, Broken>
     requires small { length bytes.now ≤ 268435456 }
     requires near { base ≤ 2 ^ 48 }
-    ensures { Judges base (Breaks bytes.now (feature_root geometry_type)) (λ b. b ≡ own_box_of (feature_of geometry_type bytes.now)) result }
+    ensures { Judges base (BreaksBuffer bytes.now (feature_root geometry_type)) (λ b. b ≡ own_box_of (feature_of geometry_type bytes.now)) result }
 {
     let table = Buf::new(bytes, base).root()?;
     feature_box(table, geometry_type)

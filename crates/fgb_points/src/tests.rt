@@ -3,17 +3,6 @@ use flat_views::{Broken, Rule};
 use order_keys::{Bounds, Coord};
 use std::test::Fail;
 
-/// The header of a file of type Point without features.
-const HEADER: [u8; 24] = [
-    16, 0, 0, 0, 10, 0, 5, 0, 0, 0, 0, 0, 4, 0, 0, 0, 12, 0, 0, 0, 1, 0, 0, 0,
-];
-
-/// The header of a file with an index of 179 Points.
-const INDEXED: [u8; 48] = [
-    32, 0, 0, 0, 22, 0, 13, 0, 0, 0, 0, 0, 12, 0, 0, 0, 0, 0, 0, 0, 0, 0, 0, 0, 4, 0, 0, 0, 0, 0,
-    0, 0, 28, 0, 0, 0, 179, 0, 0, 0, 0, 0, 0, 0, 1, 0, 0, 0,
-];
-
 /// The feature with the point (1, 2).
 const POINT: [u8; 84] = [
     16, 0, 0, 0, 6, 0, 8, 0, 4, 0, 0, 0, 0, 0, 0, 0, 12, 0, 0, 0, 28, 0, 0, 0, 18, 0, 9, 0, 0, 0,
@@ -23,26 +12,6 @@ const POINT: [u8; 84] = [
 
 /// A feature without a geometry.
 const NO_GEOMETRY: [u8; 12] = [8, 0, 0, 0, 4, 0, 4, 0, 4, 0, 0, 0];
-
-#[test]
-fn headers(rt: HostRuntime) -> Result<(), Fail> {
-    let plain = Header {
-        geometry_type: 1,
-        features_count: 0,
-        node_size: 16,
-    };
-    assert_eq!(rt; Header::read(&HEADER, 12)?, plain);
-    assert!(rt; !plain.has_index());
-    let indexed = Header::read(&INDEXED, 12)?;
-    assert_eq!(rt; indexed.features_count, 179);
-    assert!(rt; indexed.has_index());
-    let mut eight = HEADER;
-    eight[20] = 8;
-    let place = 12 + 16;
-    let rule = Rule::Kind;
-    assert_eq!(rt; Header::read(&eight, 12), Err(Broken { place, rule }));
-    Ok(())
-}
 
 fn broken(place: u64, rule: Rule) -> Result<Bounds, Broken> {
     Err(Broken { place, rule })

@@ -4,7 +4,7 @@ use Rattle.flat_layout.specs.declared.Rule.{Rule}
 use Rattle.flat_layout.specs.Layout.{is_table, led_to}
 use Rattle.flat_layout.specs.Promises.{IsClean, BreaksTable, BreaksTo}
 use Rattle.fgb_schema.specs.Tables.{feature, geometry, table, link, fields}
-use Rattle.fgb_schema.specs.Paths.{Part, thing, field, below, BreaksLayout, BreaksMore, Breaks, feature_part, geometry_part}
+use Rattle.fgb_schema.specs.Paths.{Part, thing, field, below, BreaksLayout, BreaksMore, BreaksByTable, Breaks, feature_part, geometry_part}
 use Rattle.fgb_schema.proofs.Along.{breaks_below, clean_by_parts}
 use Rattle.fgb_schema.proofs.Roots.{table_layout_clean}
 use Rattle.fgb_schema.proofs.Links.{IsLink, from_link, from_linked, link_clean}
@@ -35,7 +35,7 @@ module _ (outer : ℕ) (b : List ℕ) (t : ℕ) (sound : is_table b t ≡ true) 
   feature_from_geometry l q r broken = from_geometry_field q r (from_linked b (table (geometry outer)) BreaksTable t 0 l q r broken)
 
   more_feature : IsClean (BreaksMore b (feature_part outer t))
-  unfolding BreaksMore
+  unfolding BreaksMore BreaksByTable
   more_feature q r broken = broken
 
   -- nothing is broken in a feature whose geometry is clean, if it is there

@@ -8,7 +8,7 @@ use Rattle.flat_layout.specs.declared.Rule.TheVariants.{Kind}
 use Rattle.flat_layout.specs.Layout.{is_table, is_vector, led_to, number_in}
 use Rattle.flat_layout.specs.Promises.{IsClean, BreaksVector, BreaksTo}
 use Rattle.fgb_schema.specs.Tables.{geometry, pairs, Content, scalar, link, fields, own_type, own_pairs, is_typed, type_of}
-use Rattle.fgb_schema.specs.Paths.{Part, thing, field, below, IsAmong, BreaksLayout, BreaksMore, BreaksPairs, BreaksType, Breaks, geometry_part}
+use Rattle.fgb_schema.specs.Paths.{Part, thing, field, below, IsAmong, BreaksLayout, BreaksMore, BreaksByTable, BreaksPairs, BreaksType, Breaks, geometry_part}
 use Rattle.fgb_schema.proofs.Along.{breaks_more, breaks_below, clean_by_parts}
 use Rattle.fgb_schema.proofs.Roots.{readable, table_layout_clean, from_scalar, scalar_clean}
 use Rattle.fgb_schema.proofs.Links.{IsLink, from_link, from_linked, linked_own, link_clean}
@@ -26,7 +26,7 @@ module _ (outer : ℕ) (b : List ℕ) (g : ℕ) (sound : is_table b g ≡ true) 
 
   -- the type that holds is known, and is not that of a Point
   pub geometry_from_kind : is_typed outer b g ≡ true → (type_of outer b g == 1) ≡ false → Breaks b (geometry_part outer g) g Kind
-  unfolding BreaksMore
+  unfolding BreaksMore BreaksByTable
   geometry_from_kind typed other = breaks_more b (geometry_part outer g) g Kind (record {
     known = rw (sound, typed);
     other = other;
@@ -78,7 +78,7 @@ module _ (outer : ℕ) (b : List ℕ) (g : ℕ) (sound : is_table b g ≡ true) 
       from_field xy_part (xy_among point) q r (from_linked b pairs (BreaksVector 8) g 1 l q r (breaks_more b (thing pairs (led_to b g 1)) q r (whole, broken)))
 
   more_point : IsPoint → IsClean (BreaksMore b (geometry_part outer g))
-  unfolding BreaksMore
+  unfolding BreaksMore BreaksByTable
   more_point point q r broken = let e : true ≡ false = cc (broken.other, point.kind) in true≢false e
 
   more_pairs : IsClean (BreaksPairs b (led_to b g 1)) → IsClean (BreaksMore b (thing pairs (led_to b g 1)))

@@ -1,7 +1,11 @@
 pub mod Along
 pub mod Roots
 pub mod Links
-pub mod HeaderPaths
+pub mod TableParts
 pub mod GeometryPaths
 pub mod FeaturePaths
 pub mod Light
+pub mod FieldParts
+pub mod Weighing
+pub mod TablesParts
+pub mod FieldWeights

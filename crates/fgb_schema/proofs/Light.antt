@@ -1,11 +1,11 @@
 -- The fields that are read today lead along few paths: no buffer is heavy.
-use Rattle.std.proofs.Common.{◌≡◌, ◌⊎◌, inl, inr, ℕ, zero, suc, ◌+◌, ◌-◌, ◌*◌, ◌≤◌, ◌==◌, Bool, true, false, List, [], ◌∷◌, ◌++◌, length, map, refl, ap, ◌∙◌, arith}
+use Rattle.std.proofs.Common.{◌≡◌, inl, inr, ℕ, zero, suc, ◌+◌, ◌-◌, ◌*◌, ◌≤◌, ◌==◌, true, List, ◌++◌, length, map, refl, arith}
 use Rattle.std.proofs.lemmas.Bool.{cases_Bool}
 use Rattle.std.proofs.lemmas.Bool.Decides.{nat_tests}
 use Rattle.flat_layout.specs.Layout.{is_offset, is_table, is_absent, is_field, is_vector, count, field_place, target}
-use Rattle.fgb_schema.specs.Tables.{Name, header, feature, geometry, Thing, table, pairs, Content, scalar, link, fields, is_typed, type_of, own_type, own_pairs}
-use Rattle.fgb_schema.specs.Paths.{Part, offset, thing, field, below, header_root, feature_root, header_part, feature_part, geometry_part}
-use Rattle.fgb_schema.specs.Weights.{own_weight, total, weight_within, weight}
+use Rattle.fgb_schema.specs.Tables.{Name, feature, geometry, Thing, table, pairs, scalar, link, fields, is_typed, type_of, own_type, own_pairs}
+use Rattle.fgb_schema.specs.Paths.{offset, thing, field, below, feature_root, feature_part, geometry_part}
+use Rattle.fgb_schema.specs.Weights.{own_weight, total, weight_within}
 
 module _ (b : List ℕ) where
   offset_room : (p : ℕ) → is_offset b p ≡ true → p + 4 ≤ length b
@@ -49,14 +49,6 @@ module _ (b : List ℕ) where
     | inr other ↦ rw other (omega arith)
   ]
 
-  header_part_light : (n t : ℕ) → weight_within b n (header_part t) ≤ 4
-  unfolding weight_within own_weight below fields
-  header_part_light zero t = omega arith
-  header_part_light (suc n) t = elim (cases_Bool (is_table b t)) [
-    | inl sound ↦ rw sound (omega (arith, scalar_light n 1 t 2, scalar_light n 8 t 8, scalar_light n 2 t 9))
-    | inr other ↦ rw other (omega arith)
-  ]
-
   xy_light : (n outer g : ℕ) → total (weight_within b n) (map (λ f. field f.1 g f.0) (own_pairs outer b g)) ≤ length b - 4
   xy_light n outer g = elim (cases_Bool (is_typed outer b g)) [
     | inl typed ↦ elim (cases_Bool (type_of outer b g == 1)) [
@@ -97,8 +89,5 @@ module _ (b : List ℕ) where
     | inr other ↦ rw other (omega arith)
   ]
 
-  pub header_light : weight b header_root ≤ 4 * length b
-  header_light = root_light (2 * length b + 3) 4 header header_part_light (λ room. omega (arith, room))
-
-  pub feature_light : (outer : ℕ) → weight b (feature_root outer) ≤ 4 * length b
-  feature_light outer = root_light (2 * length b + 3) (8 + (length b - 4)) (feature outer) (feature_part_light outer) (λ room. omega (arith, room))
+  pub feature_light : (n outer : ℕ) → weight_within b n (feature_root outer) ≤ 4 * length b
+  feature_light n outer = root_light n (8 + (length b - 4)) (feature outer) (feature_part_light outer) (λ room. omega (arith, room))

@@ -1,4 +1,5 @@
 pub mod Tables
 pub mod Paths
-pub mod Records
 pub mod Weights
+pub mod Headers
+pub mod Features

@@ -2,16 +2,22 @@
 use Rattle.std.specs.Prelude.{ℕ, ◌==◌, ◌&&◌, ◌||◌, not, Bool, List, [], ◌∷◌, ◌++◌, if◌then◌else◌}
 use Rattle.flat_layout.specs.Layout.{is_absent, is_field, number_in}
 
--- a table by its name: a header; a feature under a header of this geometry type; a geometry to which this type is
--- given from outside, 0 where its own field decides
+-- a table by its name: a header, a column, a coordinate reference system; a feature under a header of this geometry
+-- type; a geometry to which this type is given from outside, 0 where its own field decides
 pub data Name : Type 0 where
   header : Name
+  column : Name
+  crs : Name
   feature : ℕ → Name
   geometry : ℕ → Name
 
--- what an offset leads to: a table, or the vector of x and y by turns
+-- what an offset leads to: a table, a vector of tables, a string, a vector of numbers of so many bytes each, or the
+-- vector of x and y by turns
 pub data Thing : Type 0 where
   table : Name → Thing
+  tables : Name → Thing
+  string : Thing
+  numbers : ℕ → Thing
   pairs : Thing
 
 -- what a field holds: a number of so many bytes, or an offset
@@ -39,8 +45,29 @@ own_type outer = if outer == 0 then (6, scalar 1) ∷ [] else []
 abbrev pub own_pairs : ℕ → List ℕ → ℕ → List (ℕ × Content)
 own_pairs outer b t = if is_typed outer b t && type_of outer b t == 1 then (1, link pairs) ∷ [] else []
 
+-- name, envelope, geometry_type, has_z, has_m, has_t, has_tm, columns, features_count, index_node_size, crs, title,
+-- description, metadata
+abbrev pub header_fields : List (ℕ × Content)
+header_fields =
+    (0, link string) ∷ (1, link (numbers 8)) ∷ (2, scalar 1) ∷ (3, scalar 1) ∷ (4, scalar 1) ∷ (5, scalar 1) ∷ (6, scalar 1)
+    ∷ (7, link (tables column)) ∷ (8, scalar 8) ∷ (9, scalar 2) ∷ (10, link (table crs))
+    ∷ (11, link string) ∷ (12, link string) ∷ (13, link string) ∷ []
+
+-- name, type, title, description, width, precision, scale, nullable, unique, primary_key, metadata
+abbrev pub column_fields : List (ℕ × Content)
+column_fields =
+    (0, link string) ∷ (1, scalar 1) ∷ (2, link string) ∷ (3, link string) ∷ (4, scalar 4) ∷ (5, scalar 4) ∷ (6, scalar 4)
+    ∷ (7, scalar 1) ∷ (8, scalar 1) ∷ (9, scalar 1) ∷ (10, link string) ∷ []
+
+-- org, code, name, description, wkt, code_string
+abbrev pub crs_fields : List (ℕ × Content)
+crs_fields =
+    (0, link string) ∷ (1, scalar 4) ∷ (2, link string) ∷ (3, link string) ∷ (4, link string) ∷ (5, link string) ∷ []
+
 -- the fields that are read of a table at t: their numbers in the schema, and what each holds
 unfoldable pub fields : Name → List ℕ → ℕ → List (ℕ × Content)
-fields header b t = (2, scalar 1) ∷ (8, scalar 8) ∷ (9, scalar 2) ∷ []
+fields header b t = header_fields
+fields column b t = column_fields
+fields crs b t = crs_fields
 fields (feature outer) b t = (0, link (table (geometry outer))) ∷ []
 fields (geometry outer) b t = own_type outer ++ own_pairs outer b t

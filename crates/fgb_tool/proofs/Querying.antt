@@ -4,17 +4,19 @@ use Rattle.std.specs.Prelude.{OnOk, OnErr, IfErr}
 use Rattle.std.specs.List.{AllByRecursion, range_with_len}
 use Rattle.std.proofs.lemmas.List.{append-nil}
 use Rattle.order_keys.specs.declared.bounds.Bounds.{Bounds}
-use Rattle.flat_layout.specs.declared.Rule.{Rule}
 use Rattle.flat_layout.specs.declared.Rule.TheVariants.{Indexed}
 use Rattle.flat_layout.specs.declared.Broken.{Broken}
-use Rattle.fgb_schema.specs.Records.{Header, has_index}
+use Rattle.flat_layout.specs.Promises.{Names}
+use Rattle.fgb_schema.specs.Paths.{header_root}
+use Rattle.fgb_schema.specs.Weights.{BreaksBuffer}
+use Rattle.fgb_schema.specs.Headers.{Header, has_index}
 use Rattle.fgb_outside.specs.Source.{Source, added}
 use Rattle.fgb_outside.specs.Asked.{IsInside, Reads, ReadsFront}
 use Rattle.fgb_outside.specs.Sink.{Sink, Appends, AppendsPart}
 use Rattle.fgb_outside.proofs.Asking.{range_with_len-append, reads_reads, reads_weaken, reads_along, reads_front, front_longer, front_weaken, front_along, reads_then_front}
 use Rattle.fgb_outside.proofs.Shown.{appends_nothing, appends_appends, appends_part, appends_then_part}
 use Rattle.section_window.specs.Window.{Held, ahead}
-use Rattle.fgb_file.specs.File.{header_size, header_end, outer_type, IsStart, IsHeader, IsUnindexed, Walks, BreaksFile, in_header, indexed, in_feature, IsDeclared, of_start, of_header, of_features}
+use Rattle.fgb_file.specs.File.{header_buffer, header_size, header_end, outer_type, IsStart, IsHeader, IsUnindexed, Walks, BreaksFile, in_header, indexed, in_feature, IsDeclared, of_start, of_header, of_features}
 use Rattle.fgb_file.specs.Found.{answer, lines}
 use Rattle.fgb_file.proofs.Walk.{walk_start, walk_whole}
 use Rattle.fgb_tool.specs.Causes.{AtRefusal}
@@ -23,7 +25,7 @@ use Rattle.fgb_tool.specs.declared.stop.Stop.TheVariants.{Refused, SourceFailed,
 use Rattle.fgb_tool.specs.declared.walk.Search.{Search}
 use Rattle.fgb_tool.specs.Pages.{Owes}
 use Rattle.fgb_tool.specs.Reading.{Fetches, FetchesPart}
-use Rattle.fgb_tool.specs.Starts.{IsOfStart, IsHeaderOf, BreaksHeader, BreaksInFront}
+use Rattle.fgb_tool.specs.Starts.{IsOfStart, IsHeaderIn, BreaksInFront}
 use Rattle.fgb_tool.specs.Walks.{IsSearch, Stands, StandsPart, StandsAt, Ends}
 use Rattle.fgb_tool.specs.Runs.{Answers, AnswersPart, none, some, in_front, behind, Refuses}
 
@@ -215,22 +217,24 @@ module _ (image : List ℕ) (size len : ℕ) (is : length image ≡ size) (start
       → ReadsFront (IsInside (12 + len) size) s2 s3 (range_with_len (12 + len) (size - (12 + len))) → ReadsFront (IsDeclared image) s s3 (range_with_len 0 (length image))
   front_asked unindexed first second third = front_along _ _ front_whole (reads_then_front (two first second) (front_weaken (IsInside (12 + len) size) (IsDeclared image) (declared_features unindexed) third))
 
-  pub header_breaks : (p : ℕ) (r : Rule) → BreaksHeader image p r → BreaksInFront image p r
-  header_breaks p r b = record {
-    breaks = subst (λ n. BreaksFile image n r) (sym b.place) (in_header start b.broken);
-    unreached = λ is. is.header.clean b.inner r b.broken;
-  }
+  -- a refusal of the header's buffer
+  pub header_breaks : (buffer : List ℕ) (e : Broken) → buffer ≡ header_buffer image → Names 12 (BreaksBuffer buffer header_root) e → BreaksInFront image e.place e.rule
+  header_breaks buffer e held named =
+      let broken : BreaksBuffer (header_buffer image) header_root named.0 e.rule = subst (λ b. BreaksBuffer b header_root named.0 e.rule) held named.2 in record {
+        breaks = subst (λ n. BreaksFile image n e.rule) (sym named.1) (in_header start broken);
+        unreached = λ is. is.header.clean named.0 e.rule broken;
+      }
 
-  pub is_header : (shown : Header) → IsHeaderOf image shown → IsHeader image
+  pub is_header : (shown : Header) → IsHeaderIn (header_buffer image) shown → IsHeader image
   is_header shown of = record { start = start; clean = of.clean }
 
-  pub index_breaks : (shown : Header) → IsHeaderOf image shown → has_index shown ≡ true → BreaksInFront image (12 + len) Indexed
+  pub index_breaks : (shown : Header) → IsHeaderIn (header_buffer image) shown → has_index shown ≡ true → BreaksInFront image (12 + len) Indexed
   index_breaks shown of has = let there = ap has_index (sym of.shows) ∙ has in record {
     breaks = subst (λ n. BreaksFile image (12 + n) Indexed) (sym same) (indexed (is_header shown of) there);
     unreached = λ is. let absent = is.unindexed in cc;
   }
 
-  pub is_search : (shown : Header) (search : Search) → IsHeaderOf image shown → has_index shown ≡ false → search.outer ≡ shown.geometry_type → search.first ≡ 12 + len → IsSearch image search size
+  pub is_search : (shown : Header) (search : Search) → IsHeaderIn (header_buffer image) shown → has_index shown ≡ false → search.outer ≡ shown.geometry_type → search.first ≡ 12 + len → IsSearch image search size
   is_search shown sought of unindexed outer first = record {
     unindexed = record { header = is_header shown of; unindexed = ap has_index (sym of.shows) ∙ unindexed };
     outer = outer ∙ ap (λ h. h.geometry_type) of.shows;

@@ -2,19 +2,17 @@
 use Rattle.std.proofs.Common.{◌≡◌, ◌⊎◌, inl, inr, ℕ, ◌+◌, ◌^◌, ◌≤◌, ◌<◌, List, length, get_or, take, drop, slice_range, slice_index, Result, Ok, Err, sym, ap, subst, ◌∙◌, arith, length-take, length-drop}
 use Rattle.std.specs.Prelude.{OnErr}
 use Rattle.std.proofs.lemmas.List.{take-append-drop, take-take, drop-take, get_or-take, take_all}
-use Rattle.flat_layout.specs.declared.Rule.{Rule}
 use Rattle.flat_layout.specs.declared.Rule.TheVariants.{FileSize, Short, Magic, HeaderSize}
 use Rattle.flat_layout.specs.declared.Broken.{Broken}
 use Rattle.flat_layout.specs.Layout.{number_at}
-use Rattle.fgb_schema.specs.Paths.{Breaks, header_root}
-use Rattle.fgb_schema.specs.Records.{Header, header_of}
+use Rattle.fgb_schema.specs.Headers.{Header}
 use Rattle.fgb_outside.specs.Source.{Source}
 use Rattle.fgb_outside.specs.Asked.{IsInside, Reads, ReadsFront}
 use Rattle.fgb_outside.proofs.Asking.{reads_weaken, front_weaken}
 use Rattle.fgb_file.specs.File.{magic, header_size, header_end, header_buffer, IsStart, Differs, file_size, short, magic_byte, header_size_past}
 use Rattle.fgb_file.proofs.Bytes.{slice_is, number_at-append, number_at-drop}
 use Rattle.fgb_tool.specs.Causes.{AtRefusal}
-use Rattle.fgb_tool.specs.Starts.{IsOfStart, IsHeaderOf, BreaksInFront}
+use Rattle.fgb_tool.specs.Starts.{IsOfStart, IsHeaderIn, BreaksInFront}
 use Rattle.fgb_tool.specs.declared.stop.Stop.{Stop}
 use Rattle.fgb_tool.specs.declared.stop.Stop.TheVariants.{Refused}
 
@@ -99,9 +97,6 @@ module _ (image start : List ℕ) (twelve : length start ≡ 12) (long : 12 ≤ 
 pub last_number : (start : List ℕ) → length start ≡ 12 → number_at 4 (take 4 (drop 8 start)) 0 ≡ number_at 4 start 8
 last_number start twelve = ap (λ s. number_at 4 s 0) (take_all 4 (drop 8 start) (omega (arith, length-drop 8 start))) ∙ number_at-drop 4 8 start
 
--- the header's buffer
-pub header_judged : (image buffer : List ℕ) (len : ℕ) (shown : Header) → buffer ≡ header_buffer image → shown ≡ header_of buffer → ((q : ℕ) (r : Rule) → Breaks buffer header_root q r → ⊥) → IsHeaderOf image shown
-header_judged image buffer len shown same shows clean = record {
-  clean = λ q r broken. clean q r (subst (λ b. Breaks b header_root q r) (sym same) broken);
-  shows = shows ∙ ap header_of same;
-}
+-- a header in its buffer is that of the file
+pub header_in : (image buffer : List ℕ) (shown : Header) → buffer ≡ header_buffer image → IsHeaderIn buffer shown → IsHeaderIn (header_buffer image) shown
+header_in image buffer shown same is = subst (λ b. IsHeaderIn b shown) same is

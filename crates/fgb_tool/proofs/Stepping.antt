@@ -8,8 +8,9 @@ use Rattle.order_keys.specs.Boxes.{meets}
 use Rattle.flat_layout.specs.declared.Rule.{Rule}
 use Rattle.flat_layout.specs.declared.Broken.{Broken}
 use Rattle.flat_layout.specs.Promises.{IsClean, Names}
-use Rattle.fgb_schema.specs.Paths.{Breaks, feature_root}
-use Rattle.fgb_schema.specs.Records.{feature_of, own_box}
+use Rattle.fgb_schema.specs.Paths.{feature_root}
+use Rattle.fgb_schema.specs.Weights.{BreaksBuffer}
+use Rattle.fgb_schema.specs.Features.{feature_of, own_box}
 use Rattle.fgb_outside.specs.Source.{Source, IfTold}
 use Rattle.fgb_outside.specs.Sink.{Sink, Appends, AppendsPart}
 use Rattle.fgb_outside.specs.declared.sinks.SinkError.{SinkError}
@@ -89,7 +90,7 @@ module _ (image : List ℕ) (search : Search) where
 
   -- what a buffer that is refused breaks
   pub own_breaks : (at base len end : ℕ) (buffer : List ℕ) (e : Broken) → IsSearch image search end → at + len ≤ length image → len ≡ 4 + size_at image at → len ≤ 268435460 → base ≡ at + 4
-      → buffer ≡ slice_range image (at + 4) (at + len) → Names base (Breaks buffer (feature_root search.outer)) e → BreaksFeature image at e.place e.rule
+      → buffer ≡ slice_range image (at + 4) (at + len) → Names base (BreaksBuffer buffer (feature_root search.outer)) e → BreaksFeature image at e.place e.rule
   own_breaks at base len end buffer e is fits sized small place same named =
       let room : at + 4 + size_at image at ≤ length image = omega arith in
       let few : size_at image at ≤ 268435456 = omega arith in
@@ -97,11 +98,11 @@ module _ (image : List ℕ) (search : Search) where
       let whole : buffer ≡ buffer_at image at = same ∙ ap (slice_range image (at + 4)) till in
       let at_e : at + 4 + named.0 ≡ e.place = omega (arith, named.1) in
       subst (λ p. BreaksFeature image at p e.rule) at_e (inside room few
-      (subst (λ t. Breaks (buffer_at image at) (feature_root t) named.0 e.rule) is.outer (subst (λ b. Breaks b (feature_root search.outer) named.0 e.rule) whole named.2)))
+      (subst (λ t. BreaksBuffer (buffer_at image at) (feature_root t) named.0 e.rule) is.outer (subst (λ b. BreaksBuffer b (feature_root search.outer) named.0 e.rule) whole named.2)))
 
   -- a step, of its parts
   pub step_made : (at at' number len : ℕ) (own : Bounds) (buffer page page' : List ℕ) → at + len ≤ length image → len ≡ 4 + size_at image at → len ≤ 268435460 → at' ≡ at + len
-      → buffer ≡ slice_range image (at + 4) (at + len) → own ≡ own_box (feature_of search.outer buffer) → IsClean (Breaks buffer (feature_root search.outer))
+      → buffer ≡ slice_range image (at + 4) (at + len) → own ≡ own_box (feature_of search.outer buffer) → IsClean (BreaksBuffer buffer (feature_root search.outer))
       → (own ≡ own_box (feature_of search.outer (buffer_at image at)) → size_at image at ≡ len - 4 → page' ≡ page ++ line_at image search number at)
       → Steps image search number at at' page page'
   step_made at at' number len own buffer page page' fits sized small moved same box clean added =
@@ -110,15 +111,15 @@ module _ (image : List ℕ) (search : Search) where
       record {
         fits = omega arith;
         small = omega arith;
-        clean = subst (λ b. IsClean (Breaks b (feature_root search.outer))) whole clean;
+        clean = subst (λ b. IsClean (BreaksBuffer b (feature_root search.outer))) whole clean;
         moved = omega arith;
         added = added (box ∙ ap (λ b. own_box (feature_of search.outer b)) whole) (omega arith);
       }
 
-  feature_framed : (at : ℕ) → search.outer ≡ outer_type image → at + 4 + size_at image at ≤ length image → size_at image at ≤ 268435456 → ((q : ℕ) (r : Rule) → Breaks (buffer_at image at) (feature_root search.outer) q r → ⊥) → IsFeature (outer_type image) (piece_at image at)
+  feature_framed : (at : ℕ) → search.outer ≡ outer_type image → at + 4 + size_at image at ≤ length image → size_at image at ≤ 268435456 → ((q : ℕ) (r : Rule) → BreaksBuffer (buffer_at image at) (feature_root search.outer) q r → ⊥) → IsFeature (outer_type image) (piece_at image at)
   feature_framed at outer fits small clean = record {
     framed = piece_framed image at fits small;
-    clean = λ q r broken. clean q r (subst (λ t. Breaks (buffer_at image at) (feature_root t) q r) (sym outer) (subst (λ b. Breaks b (feature_root (outer_type image)) q r) (buffer_of_piece at fits) broken));
+    clean = λ q r broken. clean q r (subst (λ t. BreaksBuffer (buffer_at image at) (feature_root t) q r) (sym outer) (subst (λ b. BreaksBuffer b (feature_root (outer_type image)) q r) (buffer_of_piece at fits) broken));
   }
 
   pub stands_step : (at at' number end : ℕ) (o o' : Sink) (page page' : List ℕ) → IsSearch image search end → Steps image search number at at' page page' → Stands image search at number o o' page → Stands image search at' (number + 1) o o' page'

@@ -5,8 +5,9 @@ use Rattle.order_keys.specs.Boxes.{meets}
 use Rattle.flat_layout.specs.declared.Rule.{Rule}
 use Rattle.flat_layout.specs.declared.Broken.{Broken}
 use Rattle.flat_layout.specs.Layout.{number_at}
-use Rattle.fgb_schema.specs.Paths.{Breaks, feature_root}
-use Rattle.fgb_schema.specs.Records.{feature_of, own_box}
+use Rattle.fgb_schema.specs.Paths.{feature_root}
+use Rattle.fgb_schema.specs.Weights.{BreaksBuffer}
+use Rattle.fgb_schema.specs.Features.{feature_of, own_box}
 use Rattle.fgb_outside.specs.Sink.{Sink}
 use Rattle.fgb_file.specs.File.{header_end, outer_type, IsUnindexed, IsFeature, Walks, BreaksFeature}
 use Rattle.fgb_file.specs.Found.{line, answer}
@@ -39,7 +40,7 @@ line_at image search number at =
 pub record Steps (image : List ℕ) (search : Search) (number at at' : ℕ) (page page' : List ℕ) : Type 0 where
   pub fits : at + 4 + size_at image at ≤ length image
   pub small : size_at image at ≤ 268435456
-  pub clean : (q : ℕ) (r : Rule) → Breaks (buffer_at image at) (feature_root search.outer) q r → ⊥
+  pub clean : (q : ℕ) (r : Rule) → BreaksBuffer (buffer_at image at) (feature_root search.outer) q r → ⊥
   pub moved : at' ≡ at + (4 + size_at image at)
   pub added : page' ≡ page ++ line_at image search number at
 

@@ -8,7 +8,7 @@ ghost use Rattle.fgb_tool.specs.Walks.{IsSearch};
 ghost use Rattle.fgb_tool.specs.Runs.{Answers, AnswersPart, AsksAll, AsksFront, Refuses};
 
 use crate::page::Page;
-use crate::start::{START, read_header, read_start, refused};
+use crate::start::{START, has_index, read_buffer, read_start, refused, view_header};
 use crate::stop::{Stop, is_cut_off};
 use crate::walk::{Search, walk};
 use fgb_outside::{RangeSource, Sink};
@@ -35,13 +35,14 @@ pub(crate) fn query<S: RangeSource, W: Sink>(
 {
     let size = file.size();
     let len = read_start(file, size)?;
-    let header = read_header(alloc, file, len)?;
+    let buffer = read_buffer(alloc, file, len)?;
+    let header = view_header(&buffer)?;
     let first = (START + len) as u64;
-    if header.has_index() {
+    if has_index(&header) {
         return Err(refused(first, Rule::Indexed));
     }
     let sought = Search {
-        outer: header.geometry_type,
+        outer: header.geometry_type(),
         bounds,
         first,
     };

@@ -3,15 +3,19 @@ ghost use Rattle.std.specs.Prelude.{◌≡◌, ◌+◌, ◌≤◌, ◌^◌, leng
 ghost use Rattle.std.specs.List.{range_with_len};
 ghost use Rattle.fgb_outside.specs.Source.{HasSize, IfTold, Rose};
 ghost use Rattle.fgb_outside.specs.Asked.{IsInside, Reads, ReadsFront};
-ghost use Rattle.fgb_points.specs.Headers.{shown};
-ghost use Rattle.fgb_file.specs.File.{IsStart, header_size};
+ghost use Rattle.flat_layout.specs.Promises.{Names};
+ghost use Rattle.fgb_schema.specs.Paths.{header_root};
+ghost use Rattle.fgb_schema.specs.Weights.{BreaksBuffer};
+ghost use Rattle.fgb_schema.specs.Headers.{has_index as has_index_of};
+ghost use Rattle.fgb_header.specs.Views.{header_shown};
+ghost use Rattle.fgb_file.specs.File.{IsStart, header_buffer, header_size};
 ghost use Rattle.fgb_tool.specs.Causes.{IfRefused};
-ghost use Rattle.fgb_tool.specs.Starts.{BreaksHeader, BreaksInFront, IsHeaderOf, IsOfStart, ShowsMagic};
+ghost use Rattle.fgb_tool.specs.Starts.{BreaksInFront, IsHeaderIn, IsOfStart, ShowsMagic};
 
 use crate::stop::Stop;
 use byteorder::{ByteOrder, LittleEndian};
+use fgb_header::HeaderView;
 use fgb_outside::{RangeSource, SourceError};
-use fgb_points::Header;
 use flat_views::{Broken, Rule};
 use std::alloc::Global;
 
@@ -90,23 +94,41 @@ pub(crate) fn read_start<S: RangeSource>(file: &mut S, size: u64) -> Result<usiz
     Ok(header as usize)
 }
 
-/// Reads the header of this size.
-pub(crate) fn read_header<S: RangeSource>(
+/// Reads the buffer of the header, which has this size.
+pub(crate) fn read_buffer<S: RangeSource>(
     alloc: Global,
     file: &mut S,
     len: usize,
-) -> Result<Header, Stop>
-    requires small { len ≤ 10485760 }
+) -> Result<Vec<u8>, Stop>
     requires inside { 12 + len ≤ (S.seen file.old).size }
-    ensures header { IfOk result (λ header. IfTold (S.seen file.old) (λ image. len ≡ header_size image → IsHeaderOf image (shown header))) }
-    ensures refused { IfRefused result (λ broken. IfTold (S.seen file.old) (λ image. len ≡ header_size image → BreaksHeader image broken.place broken.rule)) }
+    ensures len { IfOk result (λ buffer. length buffer.items ≡ len) }
+    ensures bytes { IfOk result (λ buffer. IfTold (S.seen file.old) (λ image. len ≡ header_size image → buffer.items ≡ header_buffer image)) }
     ensures reads { OnOk result (Reads (IsInside 12 (12 + len)) (S.seen file.old) (S.seen file.new) (range_with_len 12 len)) }
     ensures front { OnErr result (ReadsFront (IsInside 12 (12 + len)) (S.seen file.old) (S.seen file.new) (range_with_len 12 len)) }
     ensures failed { IsErrOf result Stop.SourceFailed → Rose (S.seen file.old).faults (S.seen file.new).faults }
+    ensures unrefused { IfRefused result (λ broken. ⊥) }
     ensures no_sink { IsErrOf result Stop.SinkFailed → ⊥ }
 {
     let mut buffer = vec![in alloc; 0; len]?;
     read_all(file, START as u64, &mut buffer)?;
-    let header = Header::read(&buffer, START as u64)?;
+    Ok(buffer)
+}
+
+/// The header in its buffer, which stands behind the start.
+pub(crate) fn view_header<'a>(buffer: &'a [u8]) -> Result<HeaderView<'a>, Stop>
+    requires { length buffer.now ≤ 10485760 }
+    ensures header { IfOk result (λ header. IsHeaderIn buffer.now (header_shown header)) }
+    ensures refused { IfRefused result (λ broken. Names 12 (BreaksBuffer buffer.now header_root) broken) }
+    ensures failed { IsErrOf result Stop.SourceFailed → ⊥ }
+    ensures no_sink { IsErrOf result Stop.SinkFailed → ⊥ }
+{
+    let header = HeaderView::read(buffer, START as u64)?;
     Ok(header)
+}
+
+/// Whether a file with this header has an index: the count and the node size are both above 0.
+pub(crate) fn has_index(header: &HeaderView) -> bool
+    ensures { result ≡ has_index_of (header_shown header.now) }
+{
+    header.features_count() > 0 && header.index_node_size() > 0
 }

@@ -30,6 +30,12 @@ const INDEXED: [u8; 60] = [
     0, 0,
 ];
 
+/// The start and the header of a file of type Point whose index has the node size 1.
+const NARROW: [u8; 52] = [
+    102, 103, 98, 3, 102, 103, 98, 1, 40, 0, 0, 0, 32, 0, 0, 0, 24, 0, 7, 0, 0, 0, 0, 0, 6, 0, 0,
+    0, 0, 0, 0, 0, 0, 0, 0, 0, 0, 0, 4, 0, 0, 0, 0, 0, 28, 0, 0, 0, 1, 0, 1, 0,
+];
+
 /// The patterns of -0, 0, 1, 2, 5, 10 and 11.
 const NEG_ZERO: u64 = 0x8000_0000_0000_0000;
 
@@ -270,6 +276,8 @@ fn a_broken_header_is_refused(rt: HostRuntime) -> Result<(), Fail> {
     breaks(&rt, &[(32, 8)], "Kind at 28")?;
     let asked = refuses(&rt, &INDEXED, "", "refused: Indexed at 60\n")?;
     assert_eq!(rt; asked, 60);
+    let asked = refuses(&rt, &NARROW, "", "refused: NodeSize at 44\n")?;
+    assert_eq!(rt; asked, 52);
     let asked = refuses(&rt, &EMPTY[..5], "", "refused: Short at 5\n")?;
     assert_eq!(rt; asked, 0);
     Ok(())

@@ -6,7 +6,7 @@ use Rattle.flat_layout.proofs.Judging.{exit, names-weaker}
 use Rattle.flat_views.specs.Tables.{base_of, bytes_of, place_of}
 use Rattle.fgb_schema.specs.Tables.{geometry, table as table_thing}
 use Rattle.fgb_schema.specs.Paths.{Breaks, feature_part, geometry_part}
-use Rattle.fgb_schema.specs.Records.{shape_at, feature_at, own_box}
+use Rattle.fgb_schema.specs.Features.{shape_at, feature_at, own_box}
 use Rattle.fgb_schema.proofs.Links.{linked}
 use Rattle.fgb_schema.proofs.FeaturePaths.{feature_from_link, feature_from_geometry, feature_clean}
 use Rattle.fgb_points.proofs.Judged.{judge_whole, at_table}

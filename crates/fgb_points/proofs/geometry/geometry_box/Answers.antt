@@ -7,7 +7,7 @@ use Rattle.flat_layout.proofs.Judging.{exit, names-weaker, vector-clean}
 use Rattle.flat_views.specs.Tables.{base_of, bytes_of, place_of}
 use Rattle.fgb_schema.specs.Tables.{pairs, type_of}
 use Rattle.fgb_schema.specs.Paths.{Breaks, BreaksPairs, geometry_part}
-use Rattle.fgb_schema.specs.Records.{shape_at, own_box, point_box, points}
+use Rattle.fgb_schema.specs.Features.{shape_at, own_box, point_box, points}
 use Rattle.fgb_schema.proofs.Links.{linked, linked_own}
 use Rattle.fgb_schema.proofs.GeometryPaths.{geometry_from_type, geometry_from_kind, geometry_from_xy, geometry_from_pairs, geometry_clean, typed, IsPoint}
 use Rattle.fgb_points.proofs.Judged.{judge_whole, at_vector}

@@ -2,7 +2,7 @@ use Rattle.std.proofs.Common.{◌≡◌, ℕ, sym, ap, ◌∙◌, [], ◌∷◌,
 use Rattle.flat_layout.specs.Layout.{count}
 use Rattle.flat_layout.proofs.Judging.{exit, names-weaker}
 use Rattle.flat_views.specs.Vectors.{vector_bytes, vector_place}
-use Rattle.fgb_schema.specs.Records.{point_box}
+use Rattle.fgb_schema.specs.Features.{point_box}
 use Rattle.order_keys.specs.declared.coord.Coord.{Coord}
 use Rattle.order_keys.specs.Boxes.{of_point}
 use Rattle.fgb_points.proofs.Pairs.{none_points, none_clean, one_point, one_clean, odd_count, several_points, coordinate}

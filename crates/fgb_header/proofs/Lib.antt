@@ -1,0 +1,7 @@
+mod Entries
+mod RecordFields
+mod RecordWeights
+mod HeaderGroups
+mod HeaderLinks
+mod HeaderWeights
+mod HeaderRoots

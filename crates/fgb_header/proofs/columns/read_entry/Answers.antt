@@ -1,0 +1,23 @@
+use Rattle.std.proofs.Common.{inl, arith}
+use Rattle.flat_layout.specs.Layout.{entry_place}
+use Rattle.flat_layout.proofs.Judging.{exit}
+use Rattle.flat_views.specs.TableVecs.{tables_base, tables_bytes, tables_place}
+use Rattle.fgb_header.proofs.Entries.{refuse_table, refuse_column, spend_column}
+use Rattle.fgb_header.proofs.columns.read_entry.Goals as goal
+
+pub returns-in_err-get-clause-goes : goal.returns-in_err-get-clause-goes
+returns-in_err-get-clause-goes c =
+    let b = tables_bytes c.args.tables in let p = entry_place b (tables_place c.args.tables) c.args.i in
+    exit _ _ _ _ c.from_residual.ensures.1 (inl (refuse_table (tables_base c.args.tables) b p _ c.in_err-get.ensures), omega arith)
+
+pub returns-in_err-column-clause-goes : goal.returns-in_err-column-clause-goes
+returns-in_err-column-clause-goes c =
+    let b = tables_bytes c.args.tables in let p = entry_place b (tables_place c.args.tables) c.args.i in
+    let there = c.in_ok-get.ensures in
+    exit _ _ _ _ c.from_residual-in_err-column.ensures.1 (inl (refuse_column (tables_base c.args.tables) b p there.1 c.in_ok-get.field-0 there.0 _ c.in_err-column.ensures), omega arith)
+
+pub returns-clause-goes : goal.returns-clause-goes
+returns-clause-goes c =
+    let b = tables_bytes c.args.tables in let p = entry_place b (tables_place c.args.tables) c.args.i in
+    let there = c.in_ok-get.ensures in let read = c.in_ok-column.ensures in let spent = c.spend.ensures in
+    spend_column (tables_base c.args.tables) b p there.1 c.in_ok-get.field-0 there.0 c.in_ok-column.column c.weight.result c.args.meter.now c.spend.new.self read.0 read.1 c.weight.ensures c.spend.result spent.ok spent.too_heavy spent.unchanged

@@ -1,0 +1,9 @@
+use Rattle.flat_layout.proofs.Judging.{exit}
+use Rattle.fgb_header.proofs.HeaderRoots.{refuse_root, judge_root}
+use Rattle.fgb_header.proofs.header.HeaderView.read.Goals as goal
+
+pub returns-in_err-table : goal.returns-in_err-table
+returns-in_err-table c = exit _ _ _ _ c.from_residual.ensures.1 (refuse_root _ _ _ _ _ c.new.ensures.base c.new.ensures.bytes c.in_err-table.ensures)
+
+pub returns : goal.returns
+returns c = judge_root _ _ _ _ _ _ _ c.in_ok-table.table _ c.new.ensures.base c.new.ensures.bytes c.in_ok-table.ensures.0 c.in_ok-table.ensures.1 c.new-meter.ensures.place c.new-meter.ensures.left c.in_table.ensures
