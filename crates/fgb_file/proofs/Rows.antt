@@ -6,9 +6,9 @@ use Rattle.order_keys.specs.declared.bounds.Bounds.{Bounds}
 use Rattle.std.specs.Fmt.{digits}
 use Rattle.order_keys.specs.Keys.{key_of}
 use Rattle.flat_layout.specs.Layout.{number_at, target, is_absent, slot, entry, field_place, vtable_place, vtable_size, led_to, place_in, number_in, text_in, longs, count}
-use Rattle.fgb_schema.specs.Tables.{type_of}
+use Rattle.fgb_schema.specs.Tables.{type_of, is_typed}
 use Rattle.fgb_schema.specs.Headers.{header_of, header_at}
-use Rattle.fgb_schema.specs.Features.{shape_at}
+use Rattle.fgb_schema.specs.Shapes.{shape_at}
 use Rattle.fgb_file.specs.File.{header_end, header_buffer}
 use Rattle.fgb_file.specs.Found.{found, line, lines}
 
@@ -66,9 +66,9 @@ unfolding number_at target vtable_place vtable_size slot entry is_absent field_p
 header_shown = refl
 
 three_found : lines (found 1 ten three) ≡ codes "0 0 84 3ff0000000000000 4000000000000000 3ff0000000000000 4000000000000000\n1 88 84 4024000000000000 4024000000000000 4024000000000000 4024000000000000\n"
-unfolding number_at target vtable_place vtable_size slot entry is_absent field_place led_to place_in number_in longs count type_of shape_at line lines key_of digits
+unfolding number_at target vtable_place vtable_size slot entry is_absent field_place led_to place_in number_in longs count type_of is_typed shape_at line lines key_of digits
 three_found = refl
 
 zero_found : lines (found 1 origin (point_zero ∷ [])) ≡ codes "0 0 84 8000000000000000 0000000000000000 8000000000000000 0000000000000000\n"
-unfolding number_at target vtable_place vtable_size slot entry is_absent field_place led_to place_in number_in longs count type_of shape_at line lines key_of digits
+unfolding number_at target vtable_place vtable_size slot entry is_absent field_place led_to place_in number_in longs count type_of is_typed shape_at line lines key_of digits
 zero_found = refl

@@ -1,6 +1,6 @@
 -- The groups of a header's fields: what one of them breaks is broken from the header on, and the header is clean by its
 -- groups and its columns.
-use Rattle.std.proofs.Common.{◌≡◌, ◌==◌, inl, inr, ℕ, zero, suc, ◌≤◌, nat_le, true, false, not, List, [], ◌∷◌, length, Option, Some, None, refl, ap, sym, ◌∙◌, subst, arith}
+use Rattle.std.proofs.Common.{◌≡◌, ◌==◌, inl, inr, ℕ, zero, suc, ◌≤◌, nat_le, true, false, not, List, [], ◌∷◌, length, Option, refl, sym, subst, arith}
 use Rattle.std.proofs.lemmas.Bool.{cases_Bool}
 use Rattle.std.proofs.lemmas.Grind.{common_steps}
 use Rattle.flat_layout.specs.declared.Rule.{Rule}
@@ -8,8 +8,6 @@ use Rattle.flat_layout.specs.declared.Rule.TheVariants.{Kind, NodeSize}
 use Rattle.flat_layout.specs.Layout.{is_table, is_absent, led_to, number_in, text, text_in, longs}
 use Rattle.flat_layout.specs.Promises.{IsClean, BreaksField, BreaksText, BreaksTo, BreaksVector}
 use Rattle.flat_layout.proofs.Numbers.{text_in-absent, text_in-present}
-use Rattle.flat_views.specs.declared.vectors.VecView.{VecView}
-use Rattle.flat_views.specs.Vectors.{ShowsVector, vector_place}
 use Rattle.fgb_schema.specs.Tables.{header, column, numbers, tables, string, link, scalar, fields, header_fields, Content, crs, table}
 use Rattle.fgb_schema.specs.Paths.{field, IsAmong, BreaksByTable, Breaks, header_part}
 use Rattle.fgb_schema.specs.Headers.{header_at}
@@ -19,7 +17,7 @@ use Rattle.fgb_schema.proofs.FieldParts.{from_text, text_clean, from_numbers, ve
 use Rattle.fgb_schema.proofs.TableParts.{from_field, from_table, table_clean}
 use Rattle.fgb_header.specs.declared.header.Own.{Own}
 use Rattle.fgb_header.specs.declared.columns.Columns.{Columns}
-use Rattle.fgb_header.specs.Views.{columns_shown, header_shown, numbers_shown}
+use Rattle.fgb_header.specs.Views.{columns_shown, header_shown}
 use Rattle.fgb_header.specs.Groups.{BreaksTexts, in_name, in_title, in_description, in_metadata, BreaksFlags, in_z, in_m, in_t, in_tm, BreaksKind, in_kind, other_kind, BreaksNodeSize, in_node_size, other_node_size, BreaksOwn, by_texts, by_envelope, by_kind, by_flags, by_count, by_node_size, by_crs, crs_field, columns_field, columns_in, envelope_in}
 use Rattle.fgb_header.specs.GroupViews.{ShowsOwn}
 
@@ -144,11 +142,6 @@ envelope-absent b t absent = rw absent refl
 
 pub envelope-present : (b : List ℕ) (t : ℕ) → is_absent b t 1 ≡ false → envelope_in b t ≡ longs b (led_to b t 1)
 envelope-present b t present = rw present refl
-
-pub envelope_is : (b : List ℕ) (base t : ℕ) (envelope : Option VecView) → ShowsVector 8 b base t 1 envelope → numbers_shown envelope ≡ envelope_in b t
-envelope_is b base t None absent = sym (envelope-absent b t absent)
-envelope_is b base t (Some vector) shows =
-    ap (λ s. longs s (vector_place vector)) shows.1.same_bytes ∙ ap (longs b) shows.1.same_place ∙ sym (envelope-present b t shows.0)
 
 -- a header is what its groups and its columns show
 pub header_is : (b : List ℕ) (t : ℕ) (own : Own) (columns : Columns) → ShowsOwn b t own → columns_shown columns ≡ columns_in b t → header_shown (record { own = own; columns = columns }) ≡ header_at b t

@@ -12,7 +12,8 @@ use Rattle.flat_layout.proofs.Numbers.{place_in-absent, place_in-present}
 use Rattle.flat_views.specs.declared.tables.Table.{Table}
 use Rattle.flat_views.specs.declared.vectors.TableVec.{TableVec}
 use Rattle.flat_views.specs.Tables.{IsTableAt, base_of, bytes_of, place_of}
-use Rattle.flat_views.specs.TableVecs.{IsTableVecAt, ShowsTables, tables_base, tables_bytes, tables_place}
+use Rattle.flat_views.specs.TableVecs.{ShowsTables, tables_base, tables_bytes, tables_place}
+use Rattle.flat_views.proofs.Placed.{at_list}
 use Rattle.fgb_schema.specs.Tables.{column, crs, table as table_thing, tables as tables_thing}
 use Rattle.fgb_schema.specs.Paths.{Breaks, columns_part, crs_part}
 use Rattle.fgb_schema.specs.Headers.{crs_at, columns_at}
@@ -94,18 +95,11 @@ module _ (b : List ℕ) (t : ℕ) where
         less,
       )
 
-  at_tables : (base at before after : ℕ) (list : TableVec) (r : Result Columns Broken) → IsTableVecAt b base (led_to b t 7) list
-      → Goes (tables_base list) (tables_bytes list) (columns_part (tables_place list)) at before after (λ columns. columns_shown columns ≡ columns_at (tables_bytes list) (tables_place list)) r
-      → Goes base b (columns_part (led_to b t 7)) at before after (λ columns. columns_shown columns ≡ columns_at b (led_to b t 7)) r
-  at_tables base at before after list r here goes =
-      subst (λ p. Goes base b (columns_part p) at before after (λ columns. columns_shown columns ≡ columns_at b p) r) here.same_place
-      (subst (λ s. Goes base s (columns_part (tables_place list)) at before after (λ columns. columns_shown columns ≡ columns_at s (tables_place list)) r) here.same_bytes
-      (subst (λ k. Goes k (tables_bytes list) (columns_part (tables_place list)) at before after (λ columns. columns_shown columns ≡ columns_at (tables_bytes list) (tables_place list)) r) here.same_base goes))
-
   -- what is read of the columns that the field leads to, if it is there
   pub columns_go : (base at before after : ℕ) (list : Option TableVec) (r : Result Columns Broken) → IsClean (BreaksTo (BreaksVector 4) b t 7) → ShowsTables b base t 7 list
       → MatchOption list (IsOkAnd r (λ columns. columns_shown columns ≡ []) × (after ≡ before)) (λ tables. ⊤)
       → MatchOption list ⊤ (λ tables. Goes (tables_base tables) (tables_bytes tables) (columns_part (tables_place tables)) at before after (λ columns. columns_shown columns ≡ columns_at (tables_bytes tables) (tables_place tables)) r)
       → Goes base b (columns_field t) at before after (λ columns. columns_shown columns ≡ columns_in b t) r
   columns_go base at before after None r clean shows none some = columns_none base at before after r clean shows none.0 none.1
-  columns_go base at before after (Some list) r clean shows none some = columns_some base at before after r clean shows.0 (at_tables base at before after list r shows.1 some)
+  columns_go base at before after (Some list) r clean shows none some = columns_some base at before after r clean shows.0
+      (at_list base b (led_to b t 7) list shows.1 (λ k s p. Goes k s (columns_part p) at before after (λ columns. columns_shown columns ≡ columns_at s p) r) some)

@@ -4,4 +4,4 @@ mod RecordWeights
 mod HeaderGroups
 mod HeaderLinks
 mod HeaderWeights
-mod HeaderRoots
+pub mod RootTables

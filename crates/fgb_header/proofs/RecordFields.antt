@@ -1,14 +1,15 @@
 -- The fields of a coordinate reference system and of a column: what is broken in one is broken from its table on, and
 -- the table is clean by all of them. A clean text is no longer than its buffer.
-use Rattle.std.proofs.Common.{◌≡◌, inl, inr, ℕ, ℤ, pos, negsuc, Bool, ◌+◌, ◌*◌, ◌≤◌, ◌&&◌, ◌⊎◌, nat_le, not, true, false, List, length, Option, Some, None, refl, ap, sym, ◌∙◌, ◌<◌, subst, arith}
+use Rattle.std.proofs.Common.{◌≡◌, inl, inr, ℕ, ℤ, pos, negsuc, Bool, ◌≤◌, ◌&&◌, ◌⊎◌, nat_le, not, true, false, List, length, Option, Some, None, refl, ap, sym, ◌∙◌, ◌<◌, subst, arith}
 use Rattle.std.proofs.lemmas.Bool.{cases_Bool, true≢false}
 use Rattle.std.proofs.lemmas.Bool.Decides.{nat_tests}
 use Rattle.flat_layout.specs.declared.Rule.{Rule}
 use Rattle.flat_layout.specs.declared.Rule.TheVariants.{Required, ColumnType}
-use Rattle.flat_layout.specs.Layout.{is_table, is_absent, is_vector, count, led_to, number_in, signed_in, text, text_in}
+use Rattle.flat_layout.specs.Layout.{is_table, is_absent, led_to, number_in, signed_in, text, text_in}
 use Rattle.flat_layout.specs.Promises.{IsClean, BreaksField, BreaksText, BreaksTo}
 use Rattle.flat_layout.proofs.Judging.{text-clean_vector}
 use Rattle.flat_layout.proofs.Numbers.{length-text, text_in-absent, text_in-present}
+use Rattle.flat_views.proofs.Elements.{vector_within}
 use Rattle.fgb_schema.specs.Tables.{crs, column, string, scalar, link, fields, crs_fields, column_fields, is_readable}
 use Rattle.fgb_schema.specs.Paths.{IsAmong, BreaksByTable, Breaks, Forbids, crs_part, column_part}
 use Rattle.fgb_schema.specs.Headers.{Crs, crs_at, Column, column_at, flag_in}
@@ -24,16 +25,12 @@ abbrev pub ◌&◌ : {A B : Type 0} → A → B → A × B
 a & b = (a, b)
 
 -- the bytes of a clean text lie in the buffer
-vector_within : (b : List ℕ) (p : ℕ) → is_vector 1 b p ≡ true → count b p ≤ length b
-unfolding is_vector
-vector_within b p sound = let room : p + 4 + 1 * count b p ≤ length b = grind (arith, nat_tests) in omega (arith, room)
-
 pub text_within : (b : List ℕ) (t id : ℕ) → IsClean (BreaksTo BreaksText b t id) → text_weight (text_in b t id) ≤ length b
 text_within b t id clean = elim (cases_Bool (is_absent b t id)) [
   | inl absent ↦ subst (λ o. text_weight o ≤ length b) (sym (text_in-absent b t id absent)) (omega arith)
   | inr present ↦
       let sound = text-clean_vector b (led_to b t id) (linked_own b string BreaksText t id clean (linked b string BreaksText t id clean present)) in
-      subst (λ o. text_weight o ≤ length b) (sym (text_in-present b t id present)) (omega (arith, length-text b (led_to b t id) sound, vector_within b (led_to b t id) sound))
+      subst (λ o. text_weight o ≤ length b) (sym (text_in-present b t id present)) (omega (arith, length-text b (led_to b t id) sound, vector_within 1 b (led_to b t id) sound))
 ]
 
 -- a clean text that was read

@@ -1,6 +1,5 @@
 -- What a coordinate reference system and a column weigh, where nothing is broken from their table on.
-use Rattle.std.proofs.Common.{◌≡◌, inl, inr, ℕ, true, List, [], ◌∷◌, length, map, refl, ap, subst, arith}
-use Rattle.std.specs.List.{AllByRecursion}
+use Rattle.std.proofs.Common.{◌≡◌, inl, inr, ℕ, true, List, length, map, refl, ap, subst, arith}
 use Rattle.flat_layout.specs.Layout.{is_table, led_to, text, text_in}
 use Rattle.flat_layout.specs.Promises.{IsClean}
 use Rattle.flat_layout.proofs.Numbers.{text_in-present}
@@ -9,17 +8,12 @@ use Rattle.fgb_schema.specs.Paths.{Breaks, IsAmong, crs_part, column_part}
 use Rattle.fgb_schema.specs.Headers.{crs_at, column_at}
 use Rattle.fgb_schema.specs.Weights.{Weighs, text_weight, total}
 use Rattle.fgb_schema.proofs.TableParts.{field_part}
-use Rattle.fgb_schema.proofs.Weighing.{WeighTogether, together_none, together_more, weigh_scalar, weigh_table}
+use Rattle.fgb_schema.proofs.Weighing.{WeighTogether, together_each, weigh_scalar, weigh_table}
 use Rattle.fgb_schema.proofs.FieldWeights.{weigh_text}
 use Rattle.fgb_header.specs.Views.{crs_weight, column_weight}
 use Rattle.fgb_header.proofs.RecordFields.{◌&◌, TextClean, BreaksName, crs_from_text, column_from_text, column_from_name, name_present}
 
 module _ (b : List ℕ) (t : ℕ) where
-  -- some fields, each of which weighs what f says, weigh its sum
-  pub together_each : (f : ℕ × Content → ℕ) (xs : List (ℕ × Content)) → AllByRecursion (λ x. Weighs b (field_part t x) (f x)) xs → WeighTogether b (map (field_part t) xs) (total f xs)
-  together_each f [] all = together_none b
-  together_each f (x ∷ xs) all = together_more b (field_part t x) (map (field_part t) xs) (f x) (total f xs) all.0 (together_each f xs all.1)
-
   -- a text weighs its bytes, a number nothing
   abbrev weight_of : ℕ → Content → ℕ
   weight_of id (link x) = text_weight (text_in b t id)
@@ -39,7 +33,7 @@ module _ (b : List ℕ) (t : ℕ) where
     column_name clean q r broken = clean q r (column_from_name b t sound q r broken)
 
     crs_together : IsClean (Breaks b (crs_part t)) → WeighTogether b (map (field_part t) crs_fields) (total field_weight crs_fields)
-    crs_together clean = together_each field_weight crs_fields (
+    crs_together clean = together_each b t field_weight crs_fields (
         weigh_text b t 0 (crs_text clean 0 (inl refl))
         & weigh_scalar b 4 t 1
         & weigh_text b t 2 (crs_text clean 2 (inr (inr (inl refl))))
@@ -49,7 +43,7 @@ module _ (b : List ℕ) (t : ℕ) where
         & tt)
 
     column_together : IsClean (Breaks b (column_part t)) → WeighTogether b (map (field_part t) column_fields) (total field_weight column_fields)
-    column_together clean = together_each field_weight column_fields (
+    column_together clean = together_each b t field_weight column_fields (
         weigh_text b t 0 (column_text clean 0 (inl refl))
         & weigh_scalar b 1 t 1
         & weigh_text b t 2 (column_text clean 2 (inr (inr (inl refl))))

@@ -2,12 +2,13 @@
 use Rattle.std.specs.Prelude.{◌≡◌, ℕ, ◌+◌, ◌*◌, List, length, Option, Some, None}
 use Rattle.std.specs.Option.{option_map}
 use Rattle.flat_layout.specs.Layout.{number_in, text_in, place_in}
+use Rattle.flat_views.specs.Vectors.{longs_shown}
 use Rattle.fgb_schema.specs.Headers.{Crs, crs_at, flag_in}
 use Rattle.fgb_schema.specs.Weights.{text_weight}
 use Rattle.fgb_header.specs.declared.header.Texts.{Texts}
 use Rattle.fgb_header.specs.declared.header.Flags.{Flags}
 use Rattle.fgb_header.specs.declared.header.Own.{Own}
-use Rattle.fgb_header.specs.Views.{crs_shown, crs_weight, numbers_shown}
+use Rattle.fgb_header.specs.Views.{crs_shown, crs_weight}
 use Rattle.fgb_header.specs.Groups.{envelope_in}
 
 pub record ShowsTexts (b : List ℕ) (t : ℕ) (texts : Texts) : Type 0 where
@@ -25,7 +26,7 @@ pub record ShowsFlags (b : List ℕ) (t : ℕ) (flags : Flags) : Type 0 where
 -- all but the columns
 pub record ShowsOwn (b : List ℕ) (t : ℕ) (own : Own) : Type 0 where
   pub texts : ShowsTexts b t own.texts
-  pub envelope : numbers_shown own.envelope ≡ envelope_in b t
+  pub envelope : longs_shown own.envelope ≡ envelope_in b t
   pub kind : own.geometry_type ≡ number_in 1 b t 2 0
   pub flags : ShowsFlags b t own.flags
   pub counted : own.features_count ≡ number_in 8 b t 8 0
@@ -45,4 +46,4 @@ crs_part_weight (Some c) = crs_weight c
 
 -- the table, and all below it but the columns
 abbrev pub own_weight : Own → ℕ
-own_weight own = 4 + texts_weight own.texts + 8 * length (numbers_shown own.envelope) + crs_part_weight (option_map crs_shown own.crs)
+own_weight own = 4 + texts_weight own.texts + 8 * length (longs_shown own.envelope) + crs_part_weight (option_map crs_shown own.crs)

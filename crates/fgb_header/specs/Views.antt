@@ -1,11 +1,9 @@
 -- The records that the views are seen as, and what they weigh.
 use Rattle.std.specs.Prelude.{ℕ, ◌+◌, List, [], length, Option, Some, None}
 use Rattle.std.specs.Option.{option_map}
-use Rattle.flat_layout.specs.Layout.{longs}
 use Rattle.flat_views.specs.declared.vectors.TableVec.{TableVec}
-use Rattle.flat_views.specs.declared.vectors.VecView.{VecView}
 use Rattle.flat_views.specs.TableVecs.{tables_bytes, tables_place}
-use Rattle.flat_views.specs.Vectors.{vector_bytes, vector_place}
+use Rattle.flat_views.specs.Vectors.{longs_shown}
 use Rattle.fgb_schema.specs.Headers.{Crs, Column, Header, columns_at}
 use Rattle.fgb_schema.specs.Weights.{text_weight}
 use Rattle.fgb_header.specs.declared.crs.CrsView.{CrsView}
@@ -54,15 +52,10 @@ listed (Some tables) = columns_at (tables_bytes tables) (tables_place tables)
 abbrev pub columns_shown : Columns → List Column
 columns_shown columns = listed columns.list
 
--- the numbers of a vector, none where there is no vector
-abbrev pub numbers_shown : Option VecView → List ℕ
-numbers_shown None = []
-numbers_shown (Some vector) = longs (vector_bytes vector) (vector_place vector)
-
 abbrev pub header_shown : HeaderView → Header
 header_shown h = record {
   name = option_map (λ s. s.now) h.own.texts.name;
-  envelope = numbers_shown h.own.envelope;
+  envelope = longs_shown h.own.envelope;
   geometry_type = h.own.geometry_type;
   has_z = h.own.flags.z;
   has_m = h.own.flags.m;

@@ -3,6 +3,7 @@ ghost use Rattle.flat_layout.specs.Layout.{number_in, place_in};
 ghost use Rattle.flat_layout.specs.Promises.{Judges};
 ghost use Rattle.flat_views.specs.Meters.{left_of, meter_place};
 ghost use Rattle.flat_views.specs.Tables.{base_of, bytes_of, place_of};
+ghost use Rattle.flat_views.specs.Vectors.{longs_shown};
 ghost use Rattle.fgb_schema.specs.Paths.{Breaks, header_part, header_root};
 ghost use Rattle.fgb_schema.specs.Headers.{crs_at, header_at, header_of};
 ghost use Rattle.fgb_schema.specs.Weights.{BreaksBuffer, Goes, text_weight};
@@ -155,7 +156,7 @@ struct Own<'a> {
 }
 
 impl<'a> Own<'a> {
-    ghost use Rattle.fgb_header.specs.Views.{crs_shown, numbers_shown};
+    ghost use Rattle.fgb_header.specs.Views.{crs_shown};
     ghost use Rattle.fgb_header.specs.GroupViews.{ShowsOwn, own_weight};
 
     /// The header in a table, without its columns. Refuses Field, Offset, Vtable, Vector, Zero or Utf8,
@@ -191,7 +192,7 @@ impl<'a> Own<'a> {
     #[tactic(auto, using(std::proofs::lemmas::Bool::Decides::nat_tests), unfolding(flat_layout::specs::Layout::is_vector))]
     fn numbers_size(envelope: Option<VecView>) -> u64
         requires { number_width envelope ≡ 8 }
-        ensures size { result ≡ 8 * length (numbers_shown envelope.entry) }
+        ensures size { result ≡ 8 * length (longs_shown envelope.entry) }
         ensures fits { result ≤ 2 ^ 28 }
     {
         match envelope {
@@ -220,7 +221,7 @@ pub struct HeaderView<'a> {
 }
 
 impl<'a> HeaderView<'a> {
-    ghost use Rattle.fgb_header.specs.Views.{columns_shown, crs_shown, header_shown, numbers_shown};
+    ghost use Rattle.fgb_header.specs.Views.{columns_shown, crs_shown, header_shown};
 
     /// The header in a buffer of at most 10,485,760 bytes, the first of which stands at `base` in the file.
     ///
@@ -269,7 +270,7 @@ impl<'a> HeaderView<'a> {
 
     /// The box of all points as the writer gave it: mins, then maxs. It is kept, and is not judged.
     pub fn envelope(&self) -> Option<VecView<'a>>
-        ensures { numbers_shown result ≡ (header_shown self.now).envelope }
+        ensures { longs_shown result ≡ (header_shown self.now).envelope }
     {
         self.own.envelope
     }

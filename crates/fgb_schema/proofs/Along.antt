@@ -20,7 +20,8 @@ module _ (b : List ℕ) where
   among_clean y (x ∷ xs) (inl same) all = subst (λ (z : Part). IsClean (Breaks b z)) (sym same) all.0
   among_clean y (x ∷ xs) (inr later) all = among_clean y xs later all.1
 
-  split : (x part : Part) (q : ℕ) (r : Rule) → Leads b x part → BreaksLayout b part q r ⊎ BreaksMore b part q r
+  -- what is broken along a path is broken by its first part, or from a part right below it
+  pub split : (x part : Part) (q : ℕ) (r : Rule) → Leads b x part → BreaksLayout b part q r ⊎ BreaksMore b part q r
       → (BreaksLayout b x q r ⊎ BreaksMore b x q r) ⊎ ((y : Part) × IsAmong y (below b x) × Breaks b y q r)
   split x part q r here broken = inl broken
   split x part q r (step {y = y} among path) broken = inr (y, among, record { part = part; path = path; broken = broken })

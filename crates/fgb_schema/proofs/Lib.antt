@@ -2,10 +2,12 @@ pub mod Along
 pub mod Roots
 pub mod Links
 pub mod TableParts
-pub mod GeometryPaths
 pub mod FeaturePaths
-pub mod Light
 pub mod FieldParts
 pub mod Weighing
 pub mod TablesParts
 pub mod FieldWeights
+pub mod TablesRead
+pub mod CleanEntries
+pub mod GeometryTypes
+pub mod Deciding

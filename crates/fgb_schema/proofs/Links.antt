@@ -16,18 +16,20 @@ pub record IsLink (b : List ℕ) (t id : ℕ) : Type 0 where
   pub field : is_field 4 b t id ≡ true
   pub offset : is_offset b (field_place b t id) ≡ true
 
--- Own: what is broken in the thing by itself
-module _ (b : List ℕ) (x : Thing) (Own : List ℕ → ℕ → ℕ → Rule → Type 0) (t id : ℕ) where
-  below_absent : is_absent b t id ≡ true → below b (field (link x) t id) ≡ []
+-- what is below it
+module _ (b : List ℕ) (x : Thing) (t id : ℕ) where
+  pub below_absent : is_absent b t id ≡ true → below b (field (link x) t id) ≡ []
   unfolding below
   below_absent absent = rw absent
 
-  below_present : is_absent b t id ≡ false → is_field 4 b t id ≡ true → below b (field (link x) t id) ≡ offset x (field_place b t id) ∷ []
+  pub below_present : is_absent b t id ≡ false → is_field 4 b t id ≡ true → below b (field (link x) t id) ≡ offset x (field_place b t id) ∷ []
   unfolding below
   below_present present sound = rw (present, sound)
 
+-- Own: what is broken in the thing by itself
+module _ (b : List ℕ) (x : Thing) (Own : List ℕ → ℕ → ℕ → Rule → Type 0) (t id : ℕ) where
   from_offset_in : is_absent b t id ≡ false → is_field 4 b t id ≡ true → (q : ℕ) (r : Rule) → Breaks b (offset x (field_place b t id)) q r → Breaks b (field (link x) t id) q r
-  from_offset_in present sound q r broken = breaks_below b (field (link x) t id) (offset x (field_place b t id)) q r (rw (below_present present sound) (inl refl)) broken
+  from_offset_in present sound q r broken = breaks_below b (field (link x) t id) (offset x (field_place b t id)) q r (rw (below_present b x t id present sound) (inl refl)) broken
 
   pub from_linked : IsLink b t id → (q : ℕ) (r : Rule) → Breaks b (thing x (led_to b t id)) q r → Breaks b (field (link x) t id) q r
   unfolding led_to
@@ -65,12 +67,12 @@ module _ (b : List ℕ) (x : Thing) (Own : List ℕ → ℕ → ℕ → Rule →
   pub link_clean : IsClean (BreaksTo Own b t id) → (IsLink b t id → IsClean (Breaks b (thing x (led_to b t id)))) → IsClean (Breaks b (field (link x) t id))
   unfolding led_to
   link_clean clean behind = elim (cases_Bool (is_absent b t id)) [
-    | inl absent ↦ clean_by_parts b (field (link x) t id) (layout_clean clean) more_clean (rw (below_absent absent) tt)
+    | inl absent ↦ clean_by_parts b (field (link x) t id) (layout_clean clean) more_clean (rw (below_absent b x t id absent) tt)
     | inr present ↦ led (linked clean present)
   ]
     where
       led : IsLink b t id → IsClean (Breaks b (field (link x) t id))
-      led l = clean_by_parts b (field (link x) t id) (layout_clean clean) more_clean (rw (below_present l.present l.field) (
+      led l = clean_by_parts b (field (link x) t id) (layout_clean clean) more_clean (rw (below_present b x t id l.present l.field) (
         offset_clean b x (field_place b t id) l.offset (behind l),
         tt,
       ))

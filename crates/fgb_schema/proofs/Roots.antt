@@ -21,7 +21,7 @@ module _ (b : List ℕ) where
     table = table-clean b (target b 0) (through-clean BreaksTable b 0 clean);
   }
 
-  below_offset : (x : Thing) (p : ℕ) → is_offset b p ≡ true → below b (offset x p) ≡ thing x (target b p) ∷ []
+  pub below_offset : (x : Thing) (p : ℕ) → is_offset b p ≡ true → below b (offset x p) ≡ thing x (target b p) ∷ []
   unfolding below
   below_offset x p sound = rw sound
 

@@ -1,6 +1,6 @@
 -- A vector of tables and its entries: what is broken from an entry on is broken from the vector on, and the vector is
 -- clean by its entries.
-use Rattle.std.proofs.Common.{◌≡◌, inl, inr, ℕ, zero, suc, ◌+◌, ◌<◌, nat_le, true, false, List, [], ◌∷◌, ◌++◌, map, refl, ap, sym, subst, ◌∙◌, arith}
+use Rattle.std.proofs.Common.{◌≡◌, inl, inr, ℕ, zero, suc, ◌+◌, ◌<◌, true, false, List, [], ◌∷◌, ◌++◌, map, refl, ap, sym, subst, ◌∙◌, arith}
 use Rattle.std.proofs.lemmas.Bool.{cases_eq, true≢false}
 use Rattle.std.proofs.lemmas.List.FromFn.{map-range_with_len_more}
 use Rattle.std.specs.List.{AllByRecursion, range_with_len}
@@ -10,7 +10,7 @@ use Rattle.flat_layout.specs.Layout.{is_vector, count, entry_place}
 use Rattle.flat_layout.proofs.Judging.{clean-vector}
 use Rattle.flat_layout.specs.Promises.{IsClean}
 use Rattle.fgb_schema.specs.Tables.{Name, table, tables}
-use Rattle.fgb_schema.specs.Paths.{Part, offset, thing, below, IsAmong, BreaksLayout, BreaksMore, Breaks}
+use Rattle.fgb_schema.specs.Paths.{Part, offset, thing, below, IsAmong, BreaksLayout, BreaksMore, Breaks, are_few}
 use Rattle.fgb_schema.proofs.Along.{breaks_more, breaks_below, clean_by_parts}
 
 -- the part of entry i of the vector of tables at v
@@ -21,7 +21,7 @@ entry_part b name v i = offset (table name) (entry_place b v i)
 abbrev pub entry_parts : List ℕ → Name → ℕ → ℕ → List Part
 entry_parts b name v n = map (entry_part b name v) (range_with_len 0 n)
 
-among_front : {A : Type 0} (x : A) (xs ys : List A) → IsAmong x xs → IsAmong x (xs ++ ys)
+pub among_front : {A : Type 0} (x : A) (xs ys : List A) → IsAmong x xs → IsAmong x (xs ++ ys)
 among_front x [] ys among = absurd among
 among_front x (z ∷ zs) ys (inl same) = inl same
 among_front x (z ∷ zs) ys (inr later) = inr (among_front x zs ys later)
@@ -59,11 +59,11 @@ module _ (b : List ℕ) (name : Name) (v : ℕ) where
       breaks_below b (thing (tables name) v) (entry_part b name v i) q r (rw (below_tables sound) (among_entries (count b v) i early)) broken
 
   -- there are too many tables
-  pub from_many : is_vector 4 b v ≡ true → nat_le (count b v) 65536 ≡ false → Breaks b (thing (tables name) v) v ColumnCount
+  pub from_many : is_vector 4 b v ≡ true → are_few name (count b v) ≡ false → Breaks b (thing (tables name) v) v ColumnCount
   unfolding BreaksMore
   from_many sound many = breaks_more b (thing (tables name) v) v ColumnCount (record { known = sound; other = many; place = refl; rule = refl })
 
-  more_clean : nat_le (count b v) 65536 ≡ true → IsClean (BreaksMore b (thing (tables name) v))
+  more_clean : are_few name (count b v) ≡ true → IsClean (BreaksMore b (thing (tables name) v))
   unfolding BreaksMore
   more_clean few q r broken = let e : true ≡ false = cc (broken.other, few) in true≢false e
 
@@ -78,5 +78,5 @@ module _ (b : List ℕ) (name : Name) (v : ℕ) where
   pub entries_clean_more : (n : ℕ) → EntriesClean n → IsClean (Breaks b (entry_part b name v n)) → EntriesClean (n + 1)
   entries_clean_more n all own = rw (entries_more n) (all_last (λ x. IsClean (Breaks b x)) (entry_parts b name v n) (entry_part b name v n) all own)
 
-  pub tables_clean : is_vector 4 b v ≡ true → nat_le (count b v) 65536 ≡ true → EntriesClean (count b v) → IsClean (Breaks b (thing (tables name) v))
+  pub tables_clean : is_vector 4 b v ≡ true → are_few name (count b v) ≡ true → EntriesClean (count b v) → IsClean (Breaks b (thing (tables name) v))
   tables_clean sound few all = clean_by_parts b (thing (tables name) v) (layout_clean sound) (more_clean few) (rw (below_tables sound) all)

@@ -1,10 +1,12 @@
 -- What a part weighs, by the parts below it; and that longer paths add and never take away.
-use Rattle.std.proofs.Common.{◌≡◌, ℕ, zero, suc, ◌+◌, ◌*◌, ◌<◌, ◌≤◌, true, List, [], ◌∷◌, ◌++◌, map, refl, sym, subst, arith}
+use Rattle.std.proofs.Common.{◌≡◌, ◌∙◌, ℕ, zero, suc, ◌+◌, ◌*◌, ◌<◌, ◌≤◌, true, List, [], ◌∷◌, ◌++◌, map, refl, sym, subst, arith}
+use Rattle.std.specs.List.{AllByRecursion}
 use Rattle.flat_layout.specs.Layout.{is_table, is_absent, is_offset, is_vector, count, field_place, led_to, target}
 use Rattle.fgb_schema.specs.Tables.{Name, Thing, Content, table, tables, string, numbers, scalar, link, fields}
 use Rattle.fgb_schema.specs.Paths.{Part, offset, thing, field, below}
 use Rattle.fgb_schema.specs.Weights.{own_weight, total, weight_within, Weighs, IsHeavier, is_string}
-use Rattle.fgb_schema.proofs.Links.{IsLink}
+use Rattle.fgb_schema.proofs.Roots.{below_offset}
+use Rattle.fgb_schema.proofs.Links.{IsLink, below_absent, below_present}
 use Rattle.fgb_schema.proofs.TableParts.{field_part, below_table}
 use Rattle.fgb_schema.proofs.TablesParts.{entry_parts, below_tables}
 
@@ -102,6 +104,11 @@ module _ (b : List ℕ) where
   pub least_table : (name : Name) (t w : ℕ) → is_table b t ≡ true → AreLeast (map (field_part t) (fields name b t)) w → IsLeast (thing (table name) t) (4 + w)
   least_table name t w sound rest = least_from (thing (table name) t) (map (field_part t) (fields name b t)) 4 w (below_table b name t sound) (own_table name t sound) rest
 
+  -- some fields, each of which weighs what f says, weigh its sum
+  pub together_each : (t : ℕ) (f : ℕ × Content → ℕ) (xs : List (ℕ × Content)) → AllByRecursion (λ x. Weighs b (field_part t x) (f x)) xs → WeighTogether (map (field_part t) xs) (total f xs)
+  together_each t f [] all = together_none
+  together_each t f (x ∷ xs) all = together_more (field_part t x) (map (field_part t) xs) (f x) (total f xs) all.0 (together_each t f xs all.1)
+
   -- a vector of tables, by its entries
   own_tables : (name : Name) (v : ℕ) → is_vector 4 b v ≡ true → own_weight b (thing (tables name) v) ≡ 4 * count b v
   unfolding own_weight
@@ -113,30 +120,37 @@ module _ (b : List ℕ) where
   pub least_tables : (name : Name) (v w : ℕ) → is_vector 4 b v ≡ true → AreLeast (entry_parts b name v (count b v)) w → IsLeast (thing (tables name) v) (4 * count b v + w)
   least_tables name v w sound rest = least_from (thing (tables name) v) (entry_parts b name v (count b v)) (4 * count b v) w (below_tables b name v sound) (own_tables name v sound) rest
 
-  -- an offset, by what it leads to
-  below_offset : (x : Thing) (p : ℕ) → is_offset b p ≡ true → below b (offset x p) ≡ thing x (target b p) ∷ []
-  unfolding below
-  below_offset x p sound = rw sound
+  -- and the entries, by the vector
+  within_tables : (name : Name) (v steps : ℕ) → is_vector 4 b v ≡ true → weight_within b (suc steps) (thing (tables name) v) ≡ 4 * count b v + total (weight_within b steps) (entry_parts b name v (count b v))
+  unfolding weight_within
+  within_tables name v steps sound = rw (own_tables name v sound, below_tables b name v sound) refl
 
+  pub entries_weigh : (name : Name) (v amount : ℕ) → is_vector 4 b v ≡ true → Weighs b (thing (tables name) v) amount
+      → (w : ℕ) × (amount ≡ 4 * count b v + w) × WeighTogether (entry_parts b name v (count b v)) w
+  entries_weigh name v amount sound weighs = (
+    total (weight_within b weighs.0) (entry_parts b name v (count b v)),
+    sym (weighs.1 (suc weighs.0) (omega arith)) ∙ within_tables name v weighs.0 sound,
+    (weighs.0, λ steps enough. omega (arith, weighs.1 (suc weighs.0) (omega arith), weighs.1 (suc steps) (omega (arith, enough)), within_tables name v weighs.0 sound, within_tables name v steps sound)),
+  )
+
+  pub entries_heavier : (name : Name) (v left : ℕ) → is_vector 4 b v ≡ true → IsHeavier b (thing (tables name) v) (4 * count b v + left) → AreLeast (entry_parts b name v (count b v)) (left + 1)
+  entries_heavier name v left sound heavy = (
+    heavy.0,
+    omega (arith, heavy.1, within_rises heavy.0 (suc heavy.0) (omega arith) (thing (tables name) v), within_tables name v heavy.0 sound),
+  )
+
+  -- an offset, by what it leads to
   own_offset : (x : Thing) (p : ℕ) → own_weight b (offset x p) ≡ 0
   unfolding own_weight
   own_offset x p = refl
 
   pub weigh_offset : (x : Thing) (p w : ℕ) → is_offset b p ≡ true → Weighs b (thing x (target b p)) w → Weighs b (offset x p) w
-  weigh_offset x p w sound behind = subst (Weighs b (offset x p)) (omega arith) (weigh_from (offset x p) (thing x (target b p) ∷ []) 0 (w + 0) (below_offset x p sound) (own_offset x p) (together_more (thing x (target b p)) [] w 0 behind together_none))
+  weigh_offset x p w sound behind = subst (Weighs b (offset x p)) (omega arith) (weigh_from (offset x p) (thing x (target b p) ∷ []) 0 (w + 0) (below_offset b x p sound) (own_offset x p) (together_more (thing x (target b p)) [] w 0 behind together_none))
 
   pub least_offset : (x : Thing) (p w : ℕ) → is_offset b p ≡ true → IsLeast (thing x (target b p)) w → IsLeast (offset x p) w
-  least_offset x p w sound behind = subst (IsLeast (offset x p)) (omega arith) (least_from (offset x p) (thing x (target b p) ∷ []) 0 (w + 0) (below_offset x p sound) (own_offset x p) (least_more (thing x (target b p)) [] w 0 behind (least_none [])))
+  least_offset x p w sound behind = subst (IsLeast (offset x p)) (omega arith) (least_from (offset x p) (thing x (target b p) ∷ []) 0 (w + 0) (below_offset b x p sound) (own_offset x p) (least_more (thing x (target b p)) [] w 0 behind (least_none [])))
 
   -- a field, by what it leads to
-  below_link : (x : Thing) (t id : ℕ) → IsLink b t id → below b (field (link x) t id) ≡ offset x (field_place b t id) ∷ []
-  unfolding below
-  below_link x t id led = rw (led.present, led.field)
-
-  below_absent : (x : Thing) (t id : ℕ) → is_absent b t id ≡ true → below b (field (link x) t id) ≡ []
-  unfolding below
-  below_absent x t id absent = rw absent
-
   below_scalar : (width t id : ℕ) → below b (field (scalar width) t id) ≡ []
   unfolding below
   below_scalar width t id = refl
@@ -149,16 +163,16 @@ module _ (b : List ℕ) where
   weigh_scalar width t id = weigh_from (field (scalar width) t id) [] 0 0 (below_scalar width t id) (own_field (scalar width) t id) together_none
 
   pub weigh_absent : (x : Thing) (t id : ℕ) → is_absent b t id ≡ true → Weighs b (field (link x) t id) 0
-  weigh_absent x t id absent = weigh_from (field (link x) t id) [] 0 0 (below_absent x t id absent) (own_field (link x) t id) together_none
+  weigh_absent x t id absent = weigh_from (field (link x) t id) [] 0 0 (below_absent b x t id absent) (own_field (link x) t id) together_none
 
   pub weigh_link : (x : Thing) (t id w : ℕ) → IsLink b t id → Weighs b (thing x (led_to b t id)) w → Weighs b (field (link x) t id) w
   unfolding led_to
-  weigh_link x t id w led behind = subst (Weighs b (field (link x) t id)) (omega arith) (weigh_from (field (link x) t id) (offset x (field_place b t id) ∷ []) 0 (w + 0) (below_link x t id led) (own_field (link x) t id)
+  weigh_link x t id w led behind = subst (Weighs b (field (link x) t id)) (omega arith) (weigh_from (field (link x) t id) (offset x (field_place b t id) ∷ []) 0 (w + 0) (below_present b x t id led.present led.field) (own_field (link x) t id)
       (together_more (offset x (field_place b t id)) [] w 0 (weigh_offset x (field_place b t id) w led.offset behind) together_none))
 
   pub least_link : (x : Thing) (t id w : ℕ) → IsLink b t id → IsLeast (thing x (led_to b t id)) w → IsLeast (field (link x) t id) w
   unfolding led_to
-  least_link x t id w led behind = subst (IsLeast (field (link x) t id)) (omega arith) (least_from (field (link x) t id) (offset x (field_place b t id) ∷ []) 0 (w + 0) (below_link x t id led) (own_field (link x) t id)
+  least_link x t id w led behind = subst (IsLeast (field (link x) t id)) (omega arith) (least_from (field (link x) t id) (offset x (field_place b t id) ∷ []) 0 (w + 0) (below_present b x t id led.present led.field) (own_field (link x) t id)
       (least_more (offset x (field_place b t id)) [] w 0 (least_offset x (field_place b t id) w led.offset behind) (least_none [])))
 
   -- a string, and a vector of numbers

@@ -3,3 +3,4 @@ pub mod Paths
 pub mod Weights
 pub mod Headers
 pub mod Features
+pub mod Shapes

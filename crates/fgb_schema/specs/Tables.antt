@@ -1,24 +1,25 @@
 -- The tables of a FlatGeobuf file and what is read of each (FlatGeobuf, header.fbs and feature.fbs).
-use Rattle.std.specs.Prelude.{ℕ, ◌==◌, ◌&&◌, ◌||◌, not, Bool, List, [], ◌∷◌, ◌++◌, if◌then◌else◌}
+use Rattle.std.specs.Prelude.{ℕ, ◌+◌, ◌==◌, nat_le, ◌&&◌, ◌||◌, not, Bool, List, [], ◌∷◌, ◌++◌, if◌then◌else◌}
 use Rattle.flat_layout.specs.Layout.{is_absent, is_field, number_in}
 
 -- a table by its name: a header, a column, a coordinate reference system; a feature under a header of this geometry
--- type; a geometry to which this type is given from outside, 0 where its own field decides
+-- type; a geometry to which this type is given from outside, 0 where its own field decides, and which stands at this
+-- depth, the first at 1
 pub data Name : Type 0 where
   header : Name
   column : Name
   crs : Name
   feature : ℕ → Name
-  geometry : ℕ → Name
+  geometry : ℕ → ℕ → Name
 
 -- what an offset leads to: a table, a vector of tables, a string, a vector of numbers of so many bytes each, or the
--- vector of x and y by turns
+-- vector of x and y by turns of a geometry of this type
 pub data Thing : Type 0 where
   table : Name → Thing
   tables : Name → Thing
   string : Thing
   numbers : ℕ → Thing
-  pairs : Thing
+  pairs : ℕ → Thing
 
 -- what a field holds: a number of so many bytes, or an offset
 pub data Content : Type 0 where
@@ -41,9 +42,43 @@ is_typed outer b t = not (outer == 0) || is_readable 1 b t 6
 abbrev pub own_type : ℕ → List (ℕ × Content)
 own_type outer = if outer == 0 then (6, scalar 1) ∷ [] else []
 
--- the points of a geometry, which are read of a Point
-abbrev pub own_pairs : ℕ → List ℕ → ℕ → List (ℕ × Content)
-own_pairs outer b t = if is_typed outer b t && type_of outer b t == 1 then (1, link pairs) ∷ [] else []
+-- the same type, 0 where none holds
+abbrev pub kind_of : ℕ → List ℕ → ℕ → ℕ
+kind_of outer b t = if is_typed outer b t then type_of outer b t else 0
+
+-- Point, LineString, Polygon, MultiPoint, MultiLineString, MultiPolygon, GeometryCollection
+abbrev pub is_kind : ℕ → Bool
+is_kind kind = nat_le 1 kind && nat_le kind 7
+
+-- all but the last two have points of their own
+abbrev pub has_points : ℕ → Bool
+has_points kind = nat_le 1 kind && nat_le kind 5
+
+-- of these, Polygon and MultiLineString have rings
+abbrev pub has_rings : ℕ → Bool
+has_rings kind = kind == 3 || kind == 5
+
+-- the last two have parts
+abbrev pub has_parts : ℕ → Bool
+has_parts kind = kind == 6 || kind == 7
+
+-- the type that is given to a part from outside: those of a MultiPolygon are Polygons
+abbrev pub part_type : ℕ → ℕ
+part_type kind = if kind == 6 then 3 else 0
+
+-- ends
+abbrev pub ring_fields : ℕ → List (ℕ × Content)
+ring_fields kind = if has_rings kind then (0, link (numbers 4)) ∷ [] else []
+
+-- xy, z, m, t, tm
+abbrev pub point_fields : ℕ → List (ℕ × Content)
+point_fields kind =
+    if has_points kind then (1, link (pairs kind)) ∷ (2, link (numbers 8)) ∷ (3, link (numbers 8)) ∷ (4, link (numbers 8)) ∷ (5, link (numbers 8)) ∷ []
+    else []
+
+-- parts
+abbrev pub part_fields : ℕ → ℕ → List (ℕ × Content)
+part_fields depth kind = if has_parts kind then (7, link (tables (geometry (part_type kind) (depth + 1)))) ∷ [] else []
 
 -- name, envelope, geometry_type, has_z, has_m, has_t, has_tm, columns, features_count, index_node_size, crs, title,
 -- description, metadata
@@ -69,5 +104,6 @@ unfoldable pub fields : Name → List ℕ → ℕ → List (ℕ × Content)
 fields header b t = header_fields
 fields column b t = column_fields
 fields crs b t = crs_fields
-fields (feature outer) b t = (0, link (table (geometry outer))) ∷ []
-fields (geometry outer) b t = own_type outer ++ own_pairs outer b t
+fields (feature outer) b t = (0, link (table (geometry outer 1))) ∷ []
+fields (geometry outer depth) b t =
+    own_type outer ++ ring_fields (kind_of outer b t) ++ point_fields (kind_of outer b t) ++ part_fields depth (kind_of outer b t)

@@ -22,7 +22,7 @@ own_weight b (thing (table name) t) = if is_table b t then 4 else 0
 own_weight b (thing (tables name) v) = if is_vector 4 b v then 4 * count b v else 0
 own_weight b (thing string p) = if is_string b p then count b p else 0
 own_weight b (thing (numbers width) v) = if is_vector width b v then width * count b v else 0
-own_weight b (thing pairs v) = if is_vector 8 b v then 8 * count b v else 0
+own_weight b (thing (pairs kind) v) = if is_vector 8 b v then 8 * count b v else 0
 own_weight b (field x t id) = 0
 
 -- of a text, if there is one: its bytes

@@ -152,10 +152,26 @@ fn a_query_is_answered(rt: HostRuntime) -> Result<(), Fail> {
         BOTH,
     )?;
     answers(&rt, &QUERY, &EMPTY, "")?;
+    answers(
+        &rt,
+        &["query", "three.fgb", "--box=1/2,0,20/2,10"],
+        &three,
+        BOTH,
+    )?;
 
     let zeros = file_of(alloc, &[(NEG_ZERO, ZERO)])?;
     let line = "0 0 84 8000000000000000 0000000000000000 8000000000000000 0000000000000000\n";
     answers(&rt, &["query", "zeros.fgb", "--box=0,0,0,0"], &zeros, line)
+}
+
+#[test]
+fn a_polygon_is_found(rt: HostRuntime) -> Result<(), Fail> {
+    // the header says Polygon: one ring of one point
+    let mut file = file_of(rt.alloc(), &[(ONE, TWO)])?;
+    if let Some(kind) = file.get_mut(32) {
+        *kind = 3;
+    }
+    answers(&rt, &QUERY, &file, FIRST)
 }
 
 #[test]
@@ -192,7 +208,7 @@ fn other_words_are_refused(rt: HostRuntime) -> Result<(), Fail> {
     is_usage(&rt, &[])?;
     is_usage(&rt, &["query"])?;
     is_usage(&rt, &["query", "three.fgb"])?;
-    for text in ["1,0,0,0", "", "0,0,10", "0,0,10,1/2", "0,0,10,10,10"] {
+    for text in ["1,0,0,0", "", "0,0,10", "0,0,10,1/3", "0,0,10,10,10"] {
         let word = format!(in rt.alloc(); "--box={text}")?;
         is_usage(&rt, &["query", "three.fgb", &word])?;
     }
@@ -285,8 +301,8 @@ fn a_broken_header_is_refused(rt: HostRuntime) -> Result<(), Fail> {
 
 #[test]
 fn a_broken_feature_is_refused(rt: HostRuntime) -> Result<(), Fail> {
-    breaks(&rt, &[(32, 3)], "Kind at 88")?;
-    breaks(&rt, &[(32, 0), (96, 2)], "Kind at 88")?;
+    breaks(&rt, &[(32, 0), (96, 0)], "Kind at 88")?;
+    breaks(&rt, &[(32, 0), (96, 8)], "Kind at 88")?;
     breaks(&rt, &[(32, 0), (80, 9)], "Field at 80")?;
     breaks(&rt, &[(40, 3)], "Offset at 40")?;
     breaks(&rt, &[(40, 81)], "Offset at 40")?;
@@ -308,6 +324,37 @@ fn a_broken_feature_is_refused(rt: HostRuntime) -> Result<(), Fail> {
     breaks(&rt, &[(37, 1)], "FeaturePastEnd at 36")?;
     let last = changed(rt.alloc(), &[(212, 85)])?;
     refuses(&rt, &last, BOTH, "refused: FeaturePastEnd at 212\n")?;
+    Ok(())
+}
+
+/// A feature up to its geometry, at 60: its table, and the vtables of a GeometryCollection and of a Point.
+const SHARED: [u8; 60] = [
+    12, 0, 0, 0, 6, 0, 8, 0, 4, 0, 0, 0, 8, 0, 0, 0, 44, 0, 0, 0, 20, 0, 12, 0, 0, 0, 0, 0, 0, 0,
+    0, 0, 0, 0, 0, 0, 8, 0, 4, 0, 18, 0, 8, 0, 0, 0, 0, 0, 0, 0, 0, 0, 0, 0, 0, 0, 4, 0, 0, 0,
+];
+
+/// A file with one feature of 428 bytes: collections at depths 1 to 15, each with two parts that are one table,
+/// and a Point without points at depth 16. Along the paths its 65,535 geometries weigh 524,280 with their lists.
+fn shared_parts(alloc: Global) -> Result<Vec<u8>, AllocError> {
+    let mut file = Vec::from_slice(alloc, &EMPTY)?;
+    file.extend_from_slice(&[172, 1, 0, 0])?;
+    file.extend_from_slice(&SHARED)?;
+    for level in 0..15u32 {
+        // the distance to the vtable, the offset of the list, the type, and the list of two
+        file.extend_from_slice(&(40 + 24 * level).to_le_bytes())?;
+        file.extend_from_slice(&[8, 0, 0, 0, 7, 0, 0, 0, 2, 0, 0, 0, 8, 0, 0, 0, 4, 0, 0, 0])?;
+    }
+    file.extend_from_slice(&[124, 1, 0, 0, 1, 0, 0, 0])?;
+    if let Some(kind) = file.get_mut(32) {
+        *kind = 7;
+    }
+    Ok(file)
+}
+
+#[test]
+fn shared_parts_are_heavy(rt: HostRuntime) -> Result<(), Fail> {
+    let file = shared_parts(rt.alloc())?;
+    refuses(&rt, &file, "", "refused: Weight at 40\n")?;
     Ok(())
 }
 

@@ -1,2 +1,4 @@
 pub mod Elements
 pub mod Sound
+pub mod Placed
+pub mod Shown

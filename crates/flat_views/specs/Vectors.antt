@@ -1,6 +1,6 @@
 -- What clauses see of a vector.
-use Rattle.std.specs.Prelude.{◌≡◌, ℕ, List, true, false, Option, MatchOption}
-use Rattle.flat_layout.specs.Layout.{is_absent, led_to}
+use Rattle.std.specs.Prelude.{◌≡◌, ℕ, List, [], true, false, Option, Some, None, MatchOption}
+use Rattle.flat_layout.specs.Layout.{is_absent, led_to, words, longs}
 use Rattle.flat_views.specs.Buffers.{buf_bytes, buf_base}
 use Rattle.flat_views.specs.declared.vectors.VecView.{VecView}
 
@@ -32,3 +32,12 @@ abbrev pub ShowsVector : ℕ → List ℕ → ℕ → ℕ → ℕ → Option Vec
 ShowsVector width bytes base t f o =
     MatchOption o (is_absent bytes t f ≡ true)
     (λ vector. (is_absent bytes t f ≡ false) × IsVectorAt bytes base (led_to bytes t f) width vector)
+
+-- the numbers of a vector of 8 bytes each, and of one of 4 bytes each, none where there is no vector
+abbrev pub longs_shown : Option VecView → List ℕ
+longs_shown None = []
+longs_shown (Some vector) = longs (vector_bytes vector) (vector_place vector)
+
+abbrev pub words_shown : Option VecView → List ℕ
+words_shown None = []
+words_shown (Some vector) = words (vector_bytes vector) (vector_place vector)

@@ -1,22 +1,28 @@
 -- A word spells at most one box, and none where it has a fault.
-use Rattle.std.proofs.Common.{IsTrue, inr, ◌≡◌, ◌≢◌, ℕ, suc, List, [], ◌∷◌, length, Option, Some, None, refl, ap, arith}
+use Rattle.std.proofs.Common.{IsTrue, inr, ◌≡◌, ◌≢◌, ℕ, suc, List, [], ◌∷◌, length, Option, Some, None, Result, Ok, Err, IfOk, refl, ap, arith}
 use Rattle.std.specs.Option.{option_or}
+use Rattle.std.specs.Result.{result_err}
 use Rattle.std.specs.List.{AllZip, AllByRecursion}
 use Rattle.order_keys.specs.declared.coord.Coord.{Coord}
 use Rattle.order_keys.specs.declared.bounds.Bounds.{Bounds}
 use Rattle.order_keys.specs.declared.words.BoundFault.{BoundFault}
 use Rattle.order_keys.specs.declared.words.BoundFault.TheVariants.{Order}
 use Rattle.order_keys.specs.declared.words.Spelling.{Spelling}
-use Rattle.order_keys.specs.declared.words.Spelling.TheVariants.{Pattern, Whole}
+use Rattle.order_keys.specs.declared.words.Spelling.TheVariants.{Pattern, Number}
 use Rattle.order_keys.specs.Boxes.{empty, IsBox, IsOrdered}
 use Rattle.order_keys.specs.Keys.{is_finite}
 use Rattle.order_keys.specs.Words.{spelling_of, IsBound, fault_in, bound_fault, SpellsBound, first_fault, corners_fault, corners, SpellsCorners, SpellsBox, parts_of}
-use Rattle.order_keys.proofs.Bound.{only_bound}
+use Rattle.order_keys.proofs.Bound.{same_bound, only_bound}
 
 sound : (s : Option Spelling) (c : Coord) → IsBound s c → fault_in s ≡ None
 sound None c h = absurd h
 sound (Some (Pattern p)) c h = grind (arith, h.0)
-sound (Some (Whole negative number)) c h = grind (arith, h.0)
+sound (Some (Number f)) c h = grind (arith, h.power, h.number, h.divisor)
+
+pub only_result : (s : Option Spelling) (r : Result Coord BoundFault) → IfOk r (IsBound s) → result_err r ≡ fault_in s
+    → (c : Coord) → IsBound s c → r ≡ Ok c
+only_result s (Ok a) ok fault c h = ap Ok (same_bound s a c ok h)
+only_result s (Err e) ok fault c h = let none = sound s c h in cc
 
 each_sound : (texts : List (List ℕ)) (cs : List Coord) → AllZip SpellsBound texts cs → first_fault texts ≡ None
 each_sound [] cs h = refl
@@ -56,7 +62,7 @@ only_corners text a b h k = ap box_of (each_same (parts_of text) (corners a) (co
 in_order : (s : Option Spelling) → fault_in s ≢ Some Order
 in_order None e = cc
 in_order (Some (Pattern p)) e = grind arith
-in_order (Some (Whole negative number)) e = grind arith
+in_order (Some (Number f)) e = grind arith
 
 or_either : (a b : Option BoundFault) → a ≢ Some Order → b ≢ Some Order → option_or a b ≢ Some Order
 or_either None b h k e = k e
@@ -74,7 +80,7 @@ not_order text e =
 finite : (s : Option Spelling) (c : Coord) → IsBound s c → IsTrue (is_finite c.0)
 finite None c h = absurd h
 finite (Some (Pattern p)) c h = rw (h.1) (h.0)
-finite (Some (Whole negative number)) c h = h.1.finite
+finite (Some (Number f)) c h = h.exact.finite
 
 each_finite : (texts : List (List ℕ)) (cs : List Coord) → AllZip SpellsBound texts cs → AllByRecursion (λ c. IsTrue (is_finite c.0)) cs
 each_finite [] [] h = tt

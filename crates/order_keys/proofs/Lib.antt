@@ -2,7 +2,7 @@ pub mod Digits
 pub mod Exact
 pub mod Order
 pub mod Spelling
-pub mod Whole
+pub mod Fraction
 pub mod Bound
 pub mod Parts
 pub mod Corners

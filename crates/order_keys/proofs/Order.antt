@@ -5,7 +5,7 @@ use Rattle.std.proofs.lemmas.Int.{ints}
 use Rattle.order_keys.specs.declared.coord.Coord.{Coord}
 use Rattle.order_keys.specs.declared.bounds.Bounds.{Bounds}
 use Rattle.order_keys.specs.Keys.{key_of, at_most, IsAtMost, is_finite}
-use Rattle.order_keys.specs.Boxes.{empty, of_point, IsBox, meets, Meets, is_ordered, IsOrdered, AreFinite}
+use Rattle.order_keys.specs.Boxes.{Contains, lesser, greater, join, empty, of_point, IsBox, meets, Meets, is_ordered, IsOrdered, AreFinite}
 
 pub at_most_is : (p q : ℕ) → IsTrue (at_most p q) ↔ IsAtMost p q
 at_most_is p q = search (rules, arith, ints)
@@ -65,3 +65,17 @@ point_is_box x y in_x in_y =
       record { min_x = in_x; min_y = in_y; max_x = in_x; max_y = in_y },
       record { in_x = at_most_self x.0; in_y = at_most_self y.0 },
     )
+
+pub lesser_least : (p : ℕ) (a b : Coord) → IsAtMost p a.0 → IsAtMost p b.0 → IsAtMost p (lesser a b).0
+lesser_least p a b h k = grind (arith, h, k)
+
+pub greater_least : (p : ℕ) (a b : Coord) → IsAtMost a.0 p → IsAtMost b.0 p → IsAtMost (greater a b).0 p
+greater_least p a b h k = grind (arith, h, k)
+
+pub join_least : (a b c : Bounds) → Contains c a → Contains c b → Contains c (join a b)
+join_least a b c h k = record {
+  left = lesser_least c.min_x.0 a.min_x b.min_x h.left k.left;
+  below = lesser_least c.min_y.0 a.min_y b.min_y h.below k.below;
+  right = greater_least c.max_x.0 a.max_x b.max_x h.right k.right;
+  above = greater_least c.max_y.0 a.max_y b.max_y h.above k.above;
+}

@@ -1,8 +1,8 @@
 -- Boxes of four patterns, compared by their keys.
-use Rattle.std.specs.Prelude.{◌≡◌, ◌==◌, ◌⊎◌, ◌&&◌, ◌||◌, Bool, IsTrue}
+use Rattle.std.specs.Prelude.{◌≡◌, ◌==◌, ◌⊎◌, ◌&&◌, ◌||◌, Bool, IsTrue, if◌then◌else◌}
 use Rattle.order_keys.specs.declared.coord.Coord.{Coord}
 use Rattle.order_keys.specs.declared.bounds.Bounds.{Bounds}
-use Rattle.order_keys.specs.Keys.{IsAtMost, at_most, is_finite}
+use Rattle.order_keys.specs.Keys.{key_of, IsAtMost, at_most, same_key, is_finite}
 
 -- the box of no point: from positive infinity to negative infinity
 abbrev pub empty : Bounds
@@ -29,6 +29,49 @@ abbrev pub meets : Bounds → Bounds → Bool
 meets a b =
     at_most a.min_x.0 b.max_x.0 && at_most b.min_x.0 a.max_x.0
     && at_most a.min_y.0 b.max_y.0 && at_most b.min_y.0 a.max_y.0
+
+-- a's edges lie outside b's, or on them
+pub record Contains (a b : Bounds) : Type 0 where
+  pub left : IsAtMost a.min_x.0 b.min_x.0
+  pub below : IsAtMost a.min_y.0 b.min_y.0
+  pub right : IsAtMost b.max_x.0 a.max_x.0
+  pub above : IsAtMost b.max_y.0 a.max_y.0
+
+-- the same as a test
+abbrev pub contains : Bounds → Bounds → Bool
+contains a b =
+    at_most a.min_x.0 b.min_x.0 && at_most a.min_y.0 b.min_y.0
+    && at_most b.max_x.0 a.max_x.0 && at_most b.max_y.0 a.max_y.0
+
+-- the one whose key is smaller, the first where they are equal
+abbrev pub lesser : Coord → Coord → Coord
+lesser a b = if at_most a.0 b.0 then a else b
+
+-- the one whose key is greater, the first where they are equal
+abbrev pub greater : Coord → Coord → Coord
+greater a b = if at_most b.0 a.0 then a else b
+
+-- the least box that contains both
+abbrev pub join : Bounds → Bounds → Bounds
+join a b = record {
+  min_x = lesser a.min_x b.min_x;
+  min_y = lesser a.min_y b.min_y;
+  max_x = greater a.max_x b.max_x;
+  max_y = greater a.max_y b.max_y;
+}
+
+-- the four keys are equal
+pub record IsSame (a b : Bounds) : Type 0 where
+  pub min_x : key_of a.min_x.0 ≡ key_of b.min_x.0
+  pub min_y : key_of a.min_y.0 ≡ key_of b.min_y.0
+  pub max_x : key_of a.max_x.0 ≡ key_of b.max_x.0
+  pub max_y : key_of a.max_y.0 ≡ key_of b.max_y.0
+
+-- the same as a test
+abbrev pub same : Bounds → Bounds → Bool
+same a b =
+    same_key a.min_x.0 b.min_x.0 && same_key a.min_y.0 b.min_y.0
+    && same_key a.max_x.0 b.max_x.0 && same_key a.max_y.0 b.max_y.0
 
 -- no min comes after its max
 pub record IsOrdered (a : Bounds) : Type 0 where

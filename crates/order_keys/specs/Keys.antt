@@ -1,5 +1,5 @@
 -- IEEE 754 binary64 patterns (3.4) as whole numbers: their order, their digits and their exact values.
-use Rattle.std.specs.Prelude.{◌≡◌, ◌<◌, ◌==◌, ℕ, ◌+◌, ◌-◌, ◌*◌, ◌/◌, ◌%◌, ◌^◌, max, nat_lt, nat_le, not, ℤ, pos, ◌-ℤ◌, ◌≤ℤ◌, int_lt, Bool, IsTrue, if◌then◌else◌, List, [], ◌∷◌, map, slice_index}
+use Rattle.std.specs.Prelude.{◌≡◌, ◌<◌, ◌==◌, ℕ, ◌+◌, ◌-◌, ◌*◌, ◌/◌, ◌%◌, ◌^◌, max, nat_lt, nat_le, not, ℤ, pos, ◌-ℤ◌, ◌≤ℤ◌, int_lt, ◌&&◌, Bool, IsTrue, if◌then◌else◌, List, [], ◌∷◌, map, slice_index}
 use Rattle.hex.specs.Hex.{lower_digits}
 
 -- the key of a pattern, by which coordinates are compared: both zeros have key 0
@@ -13,6 +13,10 @@ IsAtMost p q = key_of p ≤ℤ key_of q
 -- the same as a test
 abbrev pub at_most : ℕ → ℕ → Bool
 at_most p q = not (int_lt (key_of q) (key_of p))
+
+-- p and q have one key
+abbrev pub same_key : ℕ → ℕ → Bool
+same_key p q = at_most p q && at_most q p
 
 -- the sign bit
 abbrev pub is_negative : ℕ → Bool

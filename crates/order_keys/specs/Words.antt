@@ -1,9 +1,9 @@
 -- What the words for a bound and for a box spell.
-use Rattle.std.specs.Prelude.{◌≡◌, ◌≤◌, ◌==◌, ◌&&◌, ℕ, ◌^◌, nat_le, Bool, true, false, IsTrue, if◌then◌else◌, List, [], ◌∷◌, length, Option, Some, None}
+use Rattle.std.specs.Prelude.{◌≡◌, ◌≤◌, ◌==◌, ◌&&◌, ℕ, ◌^◌, nat_le, not, Bool, true, false, IsTrue, if◌then◌else◌, List, [], ◌∷◌, length, Option, Some, None}
 use Rattle.std.specs.Option.{option_map, option_or}
 use Rattle.std.specs.Result.{result_ok}
-use Rattle.std.specs.List.{AllZip, slice_split}
-use Rattle.std.specs.Int.{from_be_bytes, w64}
+use Rattle.std.specs.List.{AllZip, slice_split, list_any, before_first, after_first}
+use Rattle.std.specs.Int.{from_be_bytes, w64, is_power_of_two}
 use Rattle.std.specs.Str.{all_ascii_digits}
 use Rattle.std.specs.Str.Parse.{digits_value}
 use Rattle.hex.specs.Hex.{decode_sized}
@@ -12,7 +12,8 @@ use Rattle.order_keys.specs.declared.bounds.Bounds.{Bounds}
 use Rattle.order_keys.specs.declared.words.BoundFault.{BoundFault}
 use Rattle.order_keys.specs.declared.words.BoundFault.TheVariants.{Form, Range, NotFinite}
 use Rattle.order_keys.specs.declared.words.Spelling.{Spelling}
-use Rattle.order_keys.specs.declared.words.Spelling.TheVariants.{Pattern, Whole}
+use Rattle.order_keys.specs.declared.words.Spelling.TheVariants.{Pattern, Number}
+use Rattle.order_keys.specs.declared.words.Fraction.{Fraction}
 use Rattle.order_keys.specs.Keys.{is_finite, IsExactly}
 use Rattle.order_keys.specs.Boxes.{IsOrdered}
 
@@ -28,25 +29,51 @@ is_decimal digits = nat_le 1 (length digits) && nat_le (length digits) 16 && all
 abbrev pub decimal_of : List ℕ → Option ℕ
 decimal_of digits = if is_decimal digits then Some (digits_value 10 digits) else None
 
--- what a text spells: a pattern after an `x`, or a whole number, with a `-` in front or without
+-- a number over a divisor, where both were read
+abbrev pub over : Bool → Option ℕ → Option ℕ → Option Fraction
+over negative None divisor = None
+over negative (Some number) None = None
+over negative (Some number) (Some divisor) = Some (record { is_negative = negative; number = number; divisor = divisor })
+
+-- the byte between a number and its divisor
+abbrev pub is_slash : ℕ → Bool
+is_slash c = c == 47
+
+-- digits, and after a `/` those of the divisor, which is 1 where there is no `/`
+abbrev pub fraction_of : Bool → List ℕ → Option Fraction
+fraction_of negative text =
+    if list_any is_slash text then over negative (decimal_of (before_first is_slash text)) (decimal_of (after_first is_slash text))
+    else over negative (decimal_of text) (Some 1)
+
+-- what a text spells: a pattern after an `x`, or a number, with a `-` in front or without
 unfoldable pub spelling_of : List ℕ → Option Spelling
 spelling_of [] = None
 spelling_of (first ∷ rest) =
     if first == 120 then option_map Pattern (pattern_of rest)
-    else if first == 45 then option_map (Whole true) (decimal_of rest)
-    else option_map (Whole false) (decimal_of (first ∷ rest))
+    else if first == 45 then option_map Number (fraction_of true rest)
+    else option_map Number (fraction_of false (first ∷ rest))
+
+-- the pattern's exact value is the number over its divisor, a power of two
+pub record IsQuotient (f : Fraction) (c : Coord) : Type 0 where
+  pub power : IsTrue (is_power_of_two f.divisor)
+  pub number : f.number ≤ 2 ^ 53
+  pub divisor : f.divisor ≤ 2 ^ 52
+  pub exact : IsExactly c.0 f.is_negative f.number f.divisor
 
 -- the bound of a spelling: a finite pattern, or the pattern whose exact value is the number
 abbrev pub IsBound : Option Spelling → Coord → Type 0
 IsBound None c = ⊥
 IsBound (Some (Pattern p)) c = IsTrue (is_finite p) × (c.0 ≡ p)
-IsBound (Some (Whole negative number)) c = (number ≤ 2 ^ 53) × IsExactly c.0 negative number 1
+IsBound (Some (Number f)) c = IsQuotient f c
 
 -- the fault of a spelling, if it has one
 abbrev pub fault_in : Option Spelling → Option BoundFault
 fault_in None = Some Form
 fault_in (Some (Pattern p)) = if is_finite p then None else Some NotFinite
-fault_in (Some (Whole negative number)) = if nat_le number (2 ^ 53) then None else Some Range
+fault_in (Some (Number f)) =
+    if not (is_power_of_two f.divisor) then Some Form
+    else if nat_le f.number (2 ^ 53) && nat_le f.divisor (2 ^ 52) then None
+    else Some Range
 
 -- the text is a word for this bound
 abbrev pub SpellsBound : List ℕ → Coord → Type 0

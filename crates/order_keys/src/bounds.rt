@@ -1,5 +1,5 @@
 ghost use Rattle.std.specs.Prelude.{◌≡◌, ◌↔◌, IsTrue};
-ghost use Rattle.order_keys.specs.Boxes.{empty, of_point, meets, Meets, is_box, IsBox, is_ordered, IsOrdered, are_finite, AreFinite};
+ghost use Rattle.order_keys.specs.Boxes.{empty, of_point, join, Contains, contains, IsSame, same, meets, Meets, is_box, IsBox, is_ordered, IsOrdered, are_finite, AreFinite};
 
 use crate::coord::Coord;
 
@@ -44,6 +44,43 @@ impl Bounds {
             max_x: x,
             max_y: y,
         }
+    }
+
+    /// The least box that contains both. Where two keys are equal, this box's pattern stays.
+    pub fn join(self, other: Bounds) -> Bounds
+        ensures value { result ≡ join self other }
+        ensures holds_first { Contains result self }
+        ensures holds_other { Contains result other }
+        ensures least { (b : Bounds) → Contains b self → Contains b other → Contains b result }
+    {
+        Bounds {
+            min_x: self.min_x.lesser(other.min_x),
+            min_y: self.min_y.lesser(other.min_y),
+            max_x: self.max_x.greater(other.max_x),
+            max_y: self.max_y.greater(other.max_y),
+        }
+    }
+
+    /// Whether no edge of the other box lies outside this one, by their keys.
+    pub fn contains(self, other: Bounds) -> bool
+        ensures value { result ≡ contains self other }
+        ensures fact { IsTrue result ↔ Contains self other }
+    {
+        self.min_x.is_at_most(other.min_x)
+            && self.min_y.is_at_most(other.min_y)
+            && other.max_x.is_at_most(self.max_x)
+            && other.max_y.is_at_most(self.max_y)
+    }
+
+    /// Whether the boxes have the same edges, by their keys.
+    pub fn same(self, other: Bounds) -> bool
+        ensures value { result ≡ same self other }
+        ensures fact { IsTrue result ↔ IsSame self other }
+    {
+        self.min_x.has_same_key(other.min_x)
+            && self.min_y.has_same_key(other.min_y)
+            && self.max_x.has_same_key(other.max_x)
+            && self.max_y.has_same_key(other.max_y)
     }
 
     /// Whether the boxes have a point in common, by their keys. Edges meet.

@@ -2,8 +2,9 @@
 //! keys in place of floating point, the boxes made of them, and the words that spell both.
 //!
 //! For the layers above, [`Coord`] and [`Bounds`] are plain values, and `specs/` has what is said of them:
-//! `key_of` and `IsAtMost` order patterns, `Meets` relates boxes, with `meets` as the test that a list is
-//! filtered by, and `SpellsBox` says which box a word spells. A word spells one box at most.
+//! `key_of` and `IsAtMost` order patterns, `IsExactly` says which number a pattern stands for, `Meets`, `Contains`
+//! and `IsSame` relate boxes, with `meets` as the test that a list is filtered by, `join` is the least box that
+//! contains two, and `SpellsBox` says which box a word spells. A word spells one box at most.
 //!
 //! ```
 //! let area = read_box("-180,-90,-1,-1")?;

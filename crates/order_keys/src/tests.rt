@@ -11,14 +11,23 @@ fn reads_bounds(rt: HostRuntime) {
         ("", Err(BoundFault::Form)),
         ("-", Err(BoundFault::Form)),
         ("1/3", Err(BoundFault::Form)),
-        ("25/2", Err(BoundFault::Form)),
+        ("9007199254740993/3", Err(BoundFault::Form)),
+        ("1/0", Err(BoundFault::Form)),
+        ("1/", Err(BoundFault::Form)),
+        ("1/2/2", Err(BoundFault::Form)),
         ("00000000000000001", Err(BoundFault::Form)),
         ("9007199254740993", Err(BoundFault::Range)),
         ("-9007199254740993", Err(BoundFault::Range)),
+        ("9007199254740993/2", Err(BoundFault::Range)),
+        ("1/9007199254740992", Err(BoundFault::Range)),
         ("x7ff0000000000000", Err(BoundFault::NotFinite)),
         ("9007199254740992", Ok(Coord(0x4340_0000_0000_0000))),
         ("0", Ok(Coord(0))),
         ("-0", Ok(Coord(0x8000_0000_0000_0000))),
+        ("-0/4", Ok(Coord(0x8000_0000_0000_0000))),
+        ("3/2", Ok(Coord(0x3FF8_0000_0000_0000))),
+        ("25/2", Ok(Coord(0x4029_0000_0000_0000))),
+        ("-1/4503599627370496", Ok(Coord(0xBCB0_0000_0000_0000))),
         ("1", Ok(Coord(0x3FF0_0000_0000_0000))),
         ("10", Ok(Coord(0x4024_0000_0000_0000))),
         ("-180", Ok(Coord(0xC066_8000_0000_0000))),
@@ -41,10 +50,45 @@ fn reads_boxes(rt: HostRuntime) {
         ("-180,-90,-1,-1", "0", "-45", Ok(false)),
         ("-180,-90,-1,-1", "-1", "-90", Ok(true)),
         ("0,0,1,1", "-0", "1", Ok(true)),
+        ("-1/2,0,1/2,1", "1", "1", Ok(false)),
     ];
     for (area, x, y, want) in cases {
         assert_eq!(rt; meets_point(area, x, y), want, "at {area}");
     }
+}
+
+#[test]
+fn whole_numbers(rt: HostRuntime) {
+    let cases = [
+        (0, Some(Coord(0))),
+        (1, Some(Coord(0x3FF0_0000_0000_0000))),
+        (-1, Some(Coord(0xBFF0_0000_0000_0000))),
+        (9007199254740992, Some(Coord(0x4340_0000_0000_0000))),
+        (9007199254740993, None),
+    ];
+    for (value, want) in cases {
+        assert_eq!(rt; Coord::of_whole(value), want, "at {value}");
+    }
+}
+
+#[test]
+fn joins_boxes(rt: HostRuntime) {
+    let zero = Coord(0);
+    let minus_zero = Coord(0x8000_0000_0000_0000);
+    let one = Coord(0x3FF0_0000_0000_0000);
+    let origin = Bounds::of_point(zero, minus_zero);
+    let turned = Bounds::of_point(minus_zero, zero);
+    let joined = origin.join(Bounds::of_point(one, zero));
+    let want = Bounds {
+        min_x: zero,
+        min_y: minus_zero,
+        max_x: one,
+        max_y: minus_zero,
+    };
+    assert_eq!(rt; joined, want);
+    assert_eq!(rt; Bounds::empty().join(turned), turned);
+    assert!(rt; origin.same(turned) && !origin.same(joined));
+    assert!(rt; joined.contains(turned) && !turned.contains(joined));
 }
 
 #[test]

@@ -1,21 +1,22 @@
-ghost use Rattle.std.specs.Prelude.{◌≡◌, ◌↔◌, ◌≤◌, ◌^◌, ◌∷◌, [], length, false, IfOk, IfSome, IfNone, IfErr, IsTrue, IsErrOf, ◌⊎◌, ◌≢◌};
+ghost use Rattle.std.specs.Prelude.{◌≡◌, ◌↔◌, ◌∷◌, [], length, false, IfOk, IfSome, IfNone, IfErr, IsTrue, IsErrOf, ◌⊎◌, ◌≢◌};
 ghost use Rattle.std.specs.Result.{result_err};
 ghost use Rattle.std.specs.List.{list_all};
 ghost use Rattle.std.specs.Char.{is_ascii_digit};
-ghost use Rattle.order_keys.specs.Keys.{is_finite, IsExactly};
+ghost use Rattle.order_keys.specs.declared.words.Spelling.TheVariants.{Number};
+ghost use Rattle.order_keys.specs.Keys.{is_finite};
 ghost use Rattle.order_keys.specs.Boxes.{IsBox};
-ghost use Rattle.order_keys.specs.Words.{pattern_of, decimal_of, is_decimal, spelling_of, SpellsBound, bound_fault, parts_of, corners_fault, SpellsCorners, SpellsBox, SpellsCrossed};
+ghost use Rattle.order_keys.specs.Words.{pattern_of, decimal_of, is_decimal, fraction_of, spelling_of, IsBound, fault_in, SpellsBound, bound_fault, parts_of, corners_fault, SpellsCorners, SpellsBox, SpellsCrossed};
 
 use crate::bounds::Bounds;
-use crate::coord::{Coord, SIGN};
+use crate::coord::{Coord, MAX_WHOLE};
 use hex::decode_to_slice;
 
 /// Why a text is no bound, or no box.
 #[derive(Clone, Copy, Debug, PartialEq, Eq)]
 pub enum BoundFault {
-    /// The text has none of the forms of a bound, or not four parts.
+    /// The text has none of the forms of a bound, its divisor is no power of two, or there are not four parts.
     Form,
-    /// The number's magnitude is above 2^53.
+    /// The number's magnitude is above 2^53, or its divisor above 2^52.
     Range,
     /// The pattern is an infinity or a NaN.
     NotFinite,
@@ -28,21 +29,27 @@ pub enum BoundFault {
 enum Spelling {
     /// A pattern.
     Pattern(u64),
-    /// A whole number, as its sign and its magnitude.
-    Whole(bool, u64),
+    /// A number.
+    Number(Fraction),
 }
 
-/// The largest magnitude up to which every whole number has a pattern.
-const MAX_WHOLE: u64 = 1 << 53;
+/// A number over a divisor, with a minus sign or without.
+#[derive(Clone, Copy, Debug, PartialEq, Eq)]
+struct Fraction {
+    is_negative: bool,
+    number: u64,
+    divisor: u64,
+}
 
-/// The bit above the fraction, set in each normal number and left out of its pattern.
-const HIDDEN_BIT: u64 = 1 << 52;
+/// The largest divisor that is read.
+const MAX_DIVISOR: u64 = 1 << 52;
 
-/// The exponent of a pattern at which its significand is its value.
-const WHOLE_EXPONENT: u64 = 1075;
-
-/// Reads a bound: `x` and sixteen hexadecimal digits of either case, or an optional `-` and 1 to 16
-/// decimal digits.
+/// Reads a bound: `x` and sixteen hexadecimal digits of either case, which are its pattern (IEEE 754, 3.4), or an
+/// optional `-`, 1 to 16 decimal digits, and optionally a `/` and 1 to 16 digits of a divisor, which are its exact
+/// value.
+///
+/// The faults, in this order: Form where the text has neither form, or the divisor is no power of two; Range where
+/// the number is above 2^53 or the divisor above 2^52; NotFinite where the pattern is an infinity or a NaN.
 pub fn read_bound(text: &str) -> Result<Coord, BoundFault>
     ensures ok { IfOk result (SpellsBound text.now) }
     ensures only { (c : Coord) → SpellsBound text.now c → result ≡ Ok c }
@@ -59,13 +66,22 @@ pub fn read_bound(text: &str) -> Result<Coord, BoundFault>
                 Err(BoundFault::NotFinite)
             }
         }
-        Some(Spelling::Whole(is_negative, number)) => {
-            if number > MAX_WHOLE {
-                return Err(BoundFault::Range);
-            }
-            Ok(coord_of_whole(is_negative, number))
-        }
+        Some(Spelling::Number(fraction)) => exact_coord(fraction),
     }
+}
+
+/// The coordinate whose exact value is the number over its divisor.
+fn exact_coord(fraction: Fraction) -> Result<Coord, BoundFault>
+    ensures ok { IfOk result (IsBound (Some (Number fraction))) }
+    ensures fault { result_err result ≡ fault_in (Some (Number fraction)) }
+{
+    if !fraction.divisor.is_power_of_two() {
+        return Err(BoundFault::Form);
+    }
+    if fraction.number > MAX_WHOLE || fraction.divisor > MAX_DIVISOR {
+        return Err(BoundFault::Range);
+    }
+    Ok(Coord::of_fraction(fraction.is_negative, fraction.number, fraction.divisor))
 }
 
 /// Reads a box: four bounds with a comma between two of them, in the order min x, min y, max x, max y.
@@ -114,17 +130,35 @@ fn four_parts(text: &str) -> Option<(&str, &str, &str, &str)>
     }
 }
 
-/// Reads a pattern after an `x`, or a whole number.
+/// Reads a pattern after an `x`, or a number, with a `-` in front or without.
 fn read_spelling(text: &str) -> Option<Spelling>
     ensures { result ≡ spelling_of text.now }
 {
     if let Some(digits) = text.strip_prefix('x') {
         return Some(Spelling::Pattern(read_pattern(digits)?));
     }
-    if let Some(digits) = text.strip_prefix('-') {
-        return Some(Spelling::Whole(true, read_decimal(digits)?));
+    if let Some(number) = text.strip_prefix('-') {
+        return Some(Spelling::Number(read_fraction(true, number)?));
     }
-    Some(Spelling::Whole(false, read_decimal(text)?))
+    Some(Spelling::Number(read_fraction(false, text)?))
+}
+
+/// Reads a number without its sign, and after a `/` its divisor, which is 1 where there is no `/`.
+fn read_fraction(is_negative: bool, text: &str) -> Option<Fraction>
+    ensures { result ≡ fraction_of is_negative text.now }
+{
+    match text.split_once('/') {
+        Some((number, divisor)) => Some(Fraction {
+            is_negative,
+            number: read_decimal(number)?,
+            divisor: read_decimal(divisor)?,
+        }),
+        None => Some(Fraction {
+            is_negative,
+            number: read_decimal(text)?,
+            divisor: 1,
+        }),
+    }
 }
 
 /// Reads sixteen hexadecimal digits.
@@ -158,38 +192,4 @@ fn are_digits(bytes: &[u8]) -> bool
     ensures { result ≡ list_all is_ascii_digit bytes.now }
 {
     bytes.iter().all(|b| b.is_ascii_digit())
-}
-
-/// The coordinate of a whole number, by its sign and its magnitude.
-fn coord_of_whole(is_negative: bool, number: u64) -> Coord
-    requires { number ≤ 2 ^ 53 }
-    ensures { IsExactly result.0 is_negative number 1 }
-{
-    let magnitude = magnitude_of_whole(number);
-    if is_negative {
-        Coord(magnitude + SIGN)
-    } else {
-        Coord(magnitude)
-    }
-}
-
-/// The pattern of a whole number: the significand is doubled, and the exponent lowered, until the
-/// significand's highest bit is the hidden bit. The sum then carries that bit into the exponent.
-fn magnitude_of_whole(number: u64) -> u64
-    requires { number ≤ 2 ^ 53 }
-    ensures { IsExactly result false number 1 }
-{
-    if number == 0 {
-        return 0;
-    }
-    if number == MAX_WHOLE {
-        return (WHOLE_EXPONENT + 1) << 52;
-    }
-    let mut significand = number;
-    let mut exponent = WHOLE_EXPONENT;
-    while significand < HIDDEN_BIT {
-        significand *= 2;
-        exponent -= 1;
-    }
-    ((exponent - 1) << 52) + significand
 }

@@ -1,5 +1,6 @@
 use Rattle.flat_views.specs.Tables.{base_of, bytes_of, place_of}
-use Rattle.fgb_header.proofs.HeaderGroups.{envelope_is, own_clean}
+use Rattle.flat_views.proofs.Shown.{longs_led}
+use Rattle.fgb_header.proofs.HeaderGroups.{own_clean}
 use Rattle.fgb_header.proofs.header.Own.read.Goals as goal
 
 pub returns : goal.returns
@@ -7,7 +8,7 @@ returns c =
     let b = bytes_of c.args.table in let t = place_of c.args.table in (
       record {
         texts = c.in_ok-read.ensures.0;
-        envelope = envelope_is b (base_of c.args.table) t _ c.in_ok-vector.ensures.0;
+        envelope = longs_led 8 b (base_of c.args.table) t 1 _ c.in_ok-vector.ensures.0;
         kind = c.in_ok-known_type.ensures.0;
         flags = c.in_ok-read-2.ensures.0;
         counted = c.in_ok-scalar_u64.ensures.0;

@@ -1,3 +1,0 @@
-mod Judged
-mod Roots
-mod Pairs

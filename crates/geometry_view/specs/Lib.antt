@@ -1,0 +1,4 @@
+pub mod Fits
+pub mod Kinds
+pub mod Lists
+pub mod Views
