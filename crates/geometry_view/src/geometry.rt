@@ -12,12 +12,9 @@ ghost use Rattle.fgb_schema.specs.Shapes.{shape_at};
 ghost use Rattle.geometry_view.specs.Kinds.{number_of};
 
 use crate::kind::{Kind, Ordinate};
-use crate::lists::Lists;
+use crate::lists::{Lists, TYPE};
 use flat_views::{Table, TableVec, VecView};
 use order_keys::{Bounds, Coord};
-
-/// The field of a geometry that has its type.
-const TYPE: u16 = 6;
 
 /// A geometry, the whole tree of which was read and breaks no rule. (FlatGeobuf, feature.fbs, Geometry)
 #[derive(Clone, Copy)]
@@ -152,6 +149,7 @@ impl<'a> GeometryView<'a> {
     }
 
     /// The box of its own points.
+    #[inline(always)]
     fn own_bounds(&self) -> Bounds
         ensures value { result ≡ box_of_points (points_in (geometry_shown self.now)) }
         ensures sound { IsBox result }

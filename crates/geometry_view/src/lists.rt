@@ -29,6 +29,9 @@ const T: u16 = 4;
 
 const TM: u16 = 5;
 
+/// Read only where it decides.
+pub(crate) const TYPE: u16 = 6;
+
 const PARTS: u16 = 7;
 
 /// The vectors of a geometry and its list of parts, each absent where its type does not have it.
@@ -49,6 +52,7 @@ pub(crate) struct Lists<'a> {
     pub ghost tm_wide: { ForSome tm (λ v. vector_width v ≡ 8) },
 }
 
+// Much of what follows is inlined: handed from call to call, the lists of a small geometry cost as much as reading it.
 impl<'a> Lists<'a> {
     ghost use Rattle.std.specs.Prelude.{IfOk};
     ghost use Rattle.flat_layout.specs.Promises.{IsClean};
@@ -58,6 +62,7 @@ impl<'a> Lists<'a> {
     /// The lists of the table of a geometry of this type, judged by themselves, under a meter, which then has
     /// less by what the table and its vectors weigh. Refuses Field, Offset, Vector, PairCount, PointCount,
     /// NotFinite, Ends or Ordinates, or Weight at the meter's place; the meter then has at most what it had.
+    #[inline(always)]
     pub(crate) fn own_level(
         table: Table<'a>,
         kind: Kind,
@@ -74,6 +79,7 @@ impl<'a> Lists<'a> {
     }
 
     /// The lists that the table of a geometry of this type leads to. Refuses Field, Offset or Vector.
+    #[inline(always)]
     pub(crate) fn read(table: Table<'a>, kind: Kind) -> Result<Lists<'a>, Broken>
         ensures { let b = bytes_of table.entry in let t = place_of table.entry in
             Judges (base_of table.entry) (BreaksVectors (number_of kind) b t) (ShowsLists (number_of kind) b (base_of table.entry) t) result }
@@ -108,6 +114,7 @@ impl<'a> Lists<'a> {
     }
 
     /// What the table and its vectors weigh, without the parts themselves.
+    #[inline(always)]
     fn weight(self) -> u64
         ensures { result ≡ weight_shown self.entry }
     {
@@ -120,6 +127,7 @@ impl<'a> Lists<'a> {
 
     /// Judges the lists that were read of a table. Refuses PairCount, PointCount, NotFinite, Ends or
     /// Ordinates.
+    #[inline(always)]
     pub(crate) fn judge(self, table: Table, kind: Kind) -> Result<(), Broken>
         requires shows { ShowsLists (number_of kind) (bytes_of table) (base_of table) (place_of table) self }
         requires clean { IsClean (BreaksVectors (number_of kind) (bytes_of table) (place_of table)) }
@@ -137,6 +145,7 @@ impl<'a> Lists<'a> {
 }
 
 /// The vector that a field leads to, where the field is read at all. Refuses Field, Offset or Vector.
+#[inline(always)]
 fn vector_if<'a>(
     is_read: bool,
     table: Table<'a>,
@@ -156,6 +165,7 @@ fn vector_if<'a>(
 
 /// The vector of tables that a field leads to, where the field is read at all. Refuses Field, Offset or
 /// Vector.
+#[inline(always)]
 fn tables_if<'a>(
     is_read: bool,
     table: Table<'a>,
@@ -172,6 +182,7 @@ fn tables_if<'a>(
 }
 
 /// The bytes of the elements of a vector, `width` bytes each, or 0 where there is none.
+#[inline(always)]
 fn size_of(vector: Option<VecView>, width: u8) -> u64
     requires wide { ForSome vector (λ v. vector_width v ≡ width) }
     ensures value { result ≡ width * counted vector.entry }
@@ -184,6 +195,7 @@ fn size_of(vector: Option<VecView>, width: u8) -> u64
 }
 
 /// The bytes of the entries of a list of tables, or 0 where there is none.
+#[inline(always)]
 fn size_of_tables(tables: Option<TableVec>) -> u64
     ensures value { result ≡ 4 * tables_counted tables.entry }
     ensures small { result ≤ 2 ^ 28 }
@@ -195,6 +207,7 @@ fn size_of_tables(tables: Option<TableVec>) -> u64
 }
 
 /// Judges the points, where there are some. Refuses PairCount, PointCount or NotFinite.
+#[inline(always)]
 fn judge_pairs(xy: Option<VecView>, kind: Kind) -> Result<(), Broken>
     requires { ForSome xy (λ v. vector_width v ≡ 8) }
     ensures { JudgesSome (BreaksPairs (number_of kind)) (λ b v. All (λ x. IsTrue (is_finite x)) (longs b v)) xy.entry result }
@@ -246,6 +259,7 @@ fn all_finite(xy: VecView) -> Result<(), Broken>
 }
 
 /// Judges the ends of the rings, where there are some. Refuses Ends.
+#[inline(always)]
 fn judge_ends(ends: Option<VecView>, points: usize) -> Result<(), Broken>
     requires { ForSome ends (λ v. vector_width v ≡ 4) }
     ensures { JudgesSome (BreaksRings points) (λ _ _. ⊤) ends.entry result }
@@ -281,6 +295,7 @@ fn ends_fit(ends: VecView, points: usize) -> Result<(), Broken>
 }
 
 /// Judges the count of some ordinates, where there are any. Refuses Ordinates.
+#[inline(always)]
 fn judge_count(ordinates: Option<VecView>, points: usize) -> Result<(), Broken>
     ensures { JudgesSome (BreaksCount points) (λ _ _. ⊤) ordinates.entry result }
 {
@@ -291,6 +306,7 @@ fn judge_count(ordinates: Option<VecView>, points: usize) -> Result<(), Broken>
 }
 
 /// A vector of ordinates is empty, or has one for each point. Refuses Ordinates.
+#[inline(always)]
 fn count_fits(ordinates: VecView, points: usize) -> Result<(), Broken>
     ensures { let b = vector_bytes ordinates.entry in let v = vector_place ordinates.entry in
         Judges (vector_base ordinates.entry) (BreaksCount points b v) (λ _. ⊤) result }

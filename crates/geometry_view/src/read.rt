@@ -13,14 +13,11 @@ ghost use Rattle.geometry_view.specs.Views.{geometry_shown};
 
 use crate::geometry::GeometryView;
 use crate::kind::Kind;
-use crate::lists::Lists;
+use crate::lists::{Lists, TYPE};
 use flat_views::{Broken, Meter, Rule, Table, TableVec};
 
 /// The depth of the geometries that stand deepest.
 const MAX_DEPTH: u8 = 16;
-
-/// The field of a geometry's own type. (FlatGeobuf, feature.fbs, table Geometry)
-const TYPE: u16 = 6;
 
 impl<'a> GeometryView<'a> {
     /// The geometry in a table, for which this type holds, with all parts below it. The first geometry of
@@ -31,6 +28,7 @@ impl<'a> GeometryView<'a> {
     /// part, and Weight at the meter's place. The meter then has at most what it had.
     /// (FlatGeobuf, feature.fbs, Geometry)
     #[cycle(tree)]
+    #[inline(always)]
     pub fn read(
         table: Table<'a>,
         kind: Kind,
