@@ -4,3 +4,6 @@ pub mod Pieces
 pub mod Walk
 pub mod Valid
 pub mod Entries
+pub mod Units
+pub mod Passing
+pub mod Starting

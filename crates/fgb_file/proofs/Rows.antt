@@ -1,15 +1,16 @@
--- The definitions at worked files, computed: the file of three Points, a Point at the negative zero, and the two files
--- without features.
-use Rattle.std.proofs.Common.{◌≡◌, ℕ, ◌++◌, List, [], ◌∷◌, None, false, codes, refl}
+-- The definitions at worked bytes, computed: the file of three Points, a Point at the negative zero, and two headers
+-- that say how many features there are.
+use Rattle.std.proofs.Common.{◌≡◌, ℕ, ◌++◌, List, [], ◌∷◌, None, true, false, codes, refl}
 use Rattle.std.specs.List.{concat}
 use Rattle.order_keys.specs.declared.bounds.Bounds.{Bounds}
 use Rattle.std.specs.Fmt.{digits}
 use Rattle.order_keys.specs.Keys.{key_of}
 use Rattle.flat_layout.specs.Layout.{number_at, target, is_absent, slot, entry, field_place, vtable_place, vtable_size, led_to, place_in, number_in, text_in, longs, count}
 use Rattle.fgb_schema.specs.Tables.{type_of, is_typed}
-use Rattle.fgb_schema.specs.Headers.{header_of, header_at}
+use Rattle.fgb_schema.specs.Headers.{Header, header_of, header_at, has_index}
+use Rattle.fgb_schema.specs.Features.{feature_at}
 use Rattle.fgb_schema.specs.Shapes.{shape_at}
-use Rattle.fgb_file.specs.File.{header_end, header_buffer}
+use Rattle.fgb_file.specs.File.{header_end, header_in}
 use Rattle.fgb_file.specs.Found.{found, line, lines}
 
 -- the start and the header of a file of Points
@@ -46,7 +47,9 @@ header_ends : header_end (start_and_header ++ concat three) ≡ 36
 unfolding number_at
 header_ends = refl
 
-header_shown : header_of (header_buffer (start_and_header ++ concat three)) ≡ record {
+-- what that header shows
+abbrev points_header : Header
+points_header = record {
   name = None;
   envelope = [];
   geometry_type = 1;
@@ -62,13 +65,31 @@ header_shown : header_of (header_buffer (start_and_header ++ concat three)) ≡ 
   description = None;
   metadata = None;
 }
+
+header_shown : header_in (start_and_header ++ concat three) ≡ points_header
 unfolding number_at target vtable_place vtable_size slot entry is_absent field_place number_in text_in place_in header_at
 header_shown = refl
 
-three_found : lines (found 1 ten three) ≡ codes "0 0 84 3ff0000000000000 4000000000000000 3ff0000000000000 4000000000000000\n1 88 84 4024000000000000 4024000000000000 4024000000000000 4024000000000000\n"
-unfolding number_at target vtable_place vtable_size slot entry is_absent field_place led_to place_in number_in longs count type_of is_typed shape_at line lines key_of digits
+three_found : lines (found points_header ten three) ≡ codes "0 0 84 3ff0000000000000 4000000000000000 3ff0000000000000 4000000000000000\n1 88 84 4024000000000000 4024000000000000 4024000000000000 4024000000000000\n"
+unfolding number_at target vtable_place vtable_size slot entry is_absent field_place led_to place_in number_in longs count type_of is_typed shape_at feature_at line lines key_of digits
 three_found = refl
 
-zero_found : lines (found 1 origin (point_zero ∷ [])) ≡ codes "0 0 84 8000000000000000 0000000000000000 8000000000000000 0000000000000000\n"
-unfolding number_at target vtable_place vtable_size slot entry is_absent field_place led_to place_in number_in longs count type_of is_typed shape_at line lines key_of digits
+zero_found : lines (found points_header origin (point_zero ∷ [])) ≡ codes "0 0 84 8000000000000000 0000000000000000 8000000000000000 0000000000000000\n"
+unfolding number_at target vtable_place vtable_size slot entry is_absent field_place led_to place_in number_in longs count type_of is_typed shape_at feature_at line lines key_of digits
 zero_found = refl
+
+-- a header that says 179 features, and leaves the node size at 16, so that the file has an index
+abbrev counted_header : List ℕ
+counted_header = 32 ∷ 0 ∷ 0 ∷ 0 ∷ 22 ∷ 0 ∷ 13 ∷ 0 ∷ 0 ∷ 0 ∷ 0 ∷ 0 ∷ 12 ∷ 0 ∷ 0 ∷ 0 ∷ 0 ∷ 0 ∷ 0 ∷ 0 ∷ 0 ∷ 0 ∷ 0 ∷ 0 ∷ 4 ∷ 0 ∷ 0 ∷ 0 ∷ 0 ∷ 0 ∷ 0 ∷ 0 ∷ 28 ∷ 0 ∷ 0 ∷ 0 ∷ 179 ∷ 0 ∷ 0 ∷ 0 ∷ 0 ∷ 0 ∷ 0 ∷ 0 ∷ 1 ∷ 0 ∷ 0 ∷ 0 ∷ []
+
+-- one that says two features and the node size 0, so that it has none
+abbrev unindexed_header : List ℕ
+unindexed_header = 32 ∷ 0 ∷ 0 ∷ 0 ∷ 24 ∷ 0 ∷ 15 ∷ 0 ∷ 0 ∷ 0 ∷ 0 ∷ 0 ∷ 14 ∷ 0 ∷ 0 ∷ 0 ∷ 0 ∷ 0 ∷ 0 ∷ 0 ∷ 0 ∷ 0 ∷ 0 ∷ 0 ∷ 4 ∷ 0 ∷ 12 ∷ 0 ∷ 0 ∷ 0 ∷ 0 ∷ 0 ∷ 28 ∷ 0 ∷ 0 ∷ 0 ∷ 2 ∷ 0 ∷ 0 ∷ 0 ∷ 0 ∷ 0 ∷ 0 ∷ 0 ∷ 0 ∷ 0 ∷ 1 ∷ 0 ∷ []
+
+counted_shown : ((header_of counted_header).features_count ≡ 179) × (has_index (header_of counted_header) ≡ true)
+unfolding number_at target vtable_place vtable_size slot entry is_absent field_place number_in text_in place_in header_at
+counted_shown = (refl, refl)
+
+unindexed_shown : ((header_of unindexed_header).features_count ≡ 2) × (has_index (header_of unindexed_header) ≡ false)
+unfolding number_at target vtable_place vtable_size slot entry is_absent field_place number_in text_in place_in header_at
+unindexed_shown = (refl, refl)

@@ -1,15 +1,12 @@
--- A file that breaks no rule is the start, the header and features.
-use Rattle.std.proofs.Common.{◌≡◌, ◌≢◌, ◌⊎◌, inl, inr, ⊎_elim, ℕ, zero, suc, ◌+◌, ◌-◌, ◌^◌, ◌≤◌, ◌<◌, List, [], ◌∷◌, ◌++◌, length, get_or, take, slice_range, refl, ap, subst, ◌∙◌, arith}
-use Rattle.std.specs.List.{AllByRecursion}
+-- A file in which no unit is the first broken one is the start, the header and features.
+use Rattle.std.proofs.Common.{◌≡◌, ◌≢◌, ◌⊎◌, inl, inr, ⊎_elim, ℕ, zero, suc, ◌+◌, ◌-◌, ◌^◌, ◌≤◌, ◌<◌, List, [], ◌∷◌, ◌++◌, length, get_or, take, refl, ap, ◌∙◌, arith}
 use Rattle.std.proofs.lemmas.Bool.{cases_Bool, cases_lt, cases_eq}
 use Rattle.flat_layout.specs.declared.Rule.{Rule}
-use Rattle.flat_layout.specs.Layout.{number_at}
-use Rattle.fgb_schema.specs.Paths.{feature_root}
-use Rattle.fgb_schema.specs.Weights.{BreaksBuffer}
-use Rattle.fgb_schema.specs.Headers.{header_of, has_index}
-use Rattle.fgb_file.specs.File.{magic, header_size, header_end, header_buffer, outer_type, IsSized, IsStart, IsHeader, IsUnindexed, IsFeature, Walks, IsFile, BreaksFeature, past_end, too_large, inside, file_size, short, magic_byte, header_size_past, in_header, indexed, in_feature, IsValid}
-use Rattle.fgb_file.proofs.Walk.{walk_start, walk_step, walk_whole, piece_at, piece_framed, all-append}
-use Rattle.fgb_file.proofs.Bytes.{slice-slice, length-slice}
+use Rattle.flat_layout.specs.declared.Broken.{Broken}
+use Rattle.fgb_schema.specs.Headers.{has_index}
+use Rattle.fgb_file.specs.File.{magic, header_size, header_end, header_in, told_count, size_at, IsSized, IsStart, IsHeader, IsUnindexed, Agrees, IsFile, IsFramed, past_end, too_large, BreaksFeature, in_prefix, in_buffer, too_few, too_many, BreaksUnit, the_start, file_size, short, magic_byte, header_size_past, in_header, BreaksFirst, IsValid, Passes}
+use Rattle.fgb_file.proofs.Walk.{piece_at}
+use Rattle.fgb_file.proofs.Passing.{passes_none, passes_more, passes_end, agrees_untold, agrees_same, passes_file, first_start, first_header, first_index, first_feature, first_end, first_invalid, file_sound}
 
 -- the first place where two lists differ
 first_other : (xs ys : List ℕ) → length ys ≤ length xs
@@ -17,76 +14,93 @@ first_other : (xs ys : List ℕ) → length ys ≤ length xs
 first_other xs [] le = inl refl
 first_other [] (y ∷ ys) le = absurd (omega arith)
 first_other (x ∷ xs) (y ∷ ys) le = elim (cases_eq x y) [
-  | inl same ↦ ⊎_elim
-      (λ all. inl (ap (λ z. z ∷ take (length ys) xs) same ∙ ap (λ zs. y ∷ zs) all))
-      (λ w. inr (suc w.0, let h : suc w.0 < suc (length ys) = omega (arith, w.1) in h, ap (λ z. z ∷ take w.0 xs) same ∙ ap (λ zs. y ∷ zs) w.2, w.3))
+  | inl equal ↦ ⊎_elim
+      (λ all. inl (ap (λ z. z ∷ take (length ys) xs) equal ∙ ap (λ zs. y ∷ zs) all))
+      (λ w. inr (suc w.0, let h : suc w.0 < suc (length ys) = omega (arith, w.1) in h, ap (λ z. z ∷ take w.0 xs) equal ∙ ap (λ zs. y ∷ zs) w.2, w.3))
       (first_other xs ys (omega arith))
   | inr other ↦ inr (0, let h : 0 < suc (length ys) = omega arith in h, refl, other)
 ]
 
-module _ (image : List ℕ) (valid : IsValid image) where
+-- a number agrees with the header, or is too small, or too large where the header says one
+agrees_cases : (told n : ℕ) → (n < told) ⊎ ((0 < told) × (told < n)) ⊎ Agrees told n
+agrees_cases zero n = inr (inr (agrees_untold refl))
+agrees_cases (suc k) n = elim (cases_lt n (suc k)) [
+  | inl few ↦ inl few
+  | inr le ↦ elim (cases_lt (suc k) n) [
+    | inl many ↦ inr (inl (omega arith, many))
+    | inr ge ↦ inr (inr (agrees_same (omega arith)))
+  ]
+]
+
+module _ (image : List ℕ) (unbroken : (e : Broken) → BreaksFirst image e → ⊥) where
+  start_sound : (q : ℕ) (r : Rule) → BreaksUnit image the_start q r → ⊥
+  start_sound q r broken = unbroken (record { place = q; rule = r }) (first_start image broken)
+
   sized : IsSized image
   sized = record {
-    short = ⊎_elim (λ long. absurd (valid 0 _ (file_size long))) (λ le. le) (cases_lt (2 ^ 48) (length image));
-    long = ⊎_elim (λ few. absurd (valid (length image) _ (short few))) (λ le. le) (cases_lt (length image) 12);
+    short = ⊎_elim (λ long. absurd (start_sound 0 _ (file_size long))) (λ le. le) (cases_lt (2 ^ 48) (length image));
+    long = ⊎_elim (λ few. absurd (start_sound (length image) _ (short few))) (λ le. le) (cases_lt (length image) 12);
   }
 
   is_magic : take 7 image ≡ magic
-  is_magic = ⊎_elim (λ same. same)
-      (λ w. absurd (valid w.0 _ (magic_byte sized (record { early = w.1; same = w.2; other = w.3 }))))
+  is_magic = ⊎_elim (λ all. all)
+      (λ w. absurd (start_sound w.0 _ (magic_byte sized (record { early = w.1; same = w.2; other = w.3 }))))
       (first_other image magic (let h : 7 ≤ length image = omega (arith, sized.long) in h))
 
   start : IsStart image
   start = record {
     sized = sized;
     magic = is_magic;
-    small = ⊎_elim (λ large. absurd (valid 8 _ (header_size_past sized is_magic (inl large)))) (λ le. le) (cases_lt 10485760 (header_size image));
-    inside = ⊎_elim (λ past. absurd (valid 8 _ (header_size_past sized is_magic (inr past)))) (λ le. le) (cases_lt (length image) (header_end image));
+    small = ⊎_elim (λ large. absurd (start_sound 8 _ (header_size_past sized is_magic (inl large)))) (λ le. le) (cases_lt 10485760 (header_size image));
+    inside = ⊎_elim (λ past. absurd (start_sound 8 _ (header_size_past sized is_magic (inr past)))) (λ le. le) (cases_lt (length image) (header_end image));
   }
 
   header : IsHeader image
-  header = record { start = start; clean = λ q r broken. valid (12 + q) r (in_header start broken) }
+  header = record { start = start; clean = λ q r broken. unbroken (record { place = 12 + q; rule = r }) (first_header image start (in_header start broken)) }
 
   unindexed : IsUnindexed image
   unindexed = record {
     header = header;
-    unindexed = ⊎_elim (λ has. absurd (valid (header_end image) _ (indexed header has))) (λ none. none) (cases_Bool (has_index (header_of (header_buffer image))));
+    unindexed = ⊎_elim (λ has. absurd (unbroken _ (first_index image header has))) (λ none. none) (cases_Bool (has_index (header_in image)));
   }
 
-  -- what is broken at the feature where a walk stands is broken in the file
-  next_sound : (ws : List (List ℕ)) (at : ℕ) → Walks image ws at → at < length image → (q : ℕ) (r : Rule) → BreaksFeature image at q r → ⊥
-  next_sound ws at walk early q r broken = valid q r (in_feature unindexed walk early broken)
+  -- the feature where going on stands is framed and sound
+  next_sound : (ws : List (List ℕ)) (at : ℕ) → Passes image ws at → at < length image → (q : ℕ) (r : Rule) → BreaksFeature image at q r → ⊥
+  next_sound ws at passes early q r broken = unbroken (record { place = q; rule = r }) (first_feature image passes early broken)
 
-  fits : (ws : List (List ℕ)) (at : ℕ) → Walks image ws at → at < length image → at + 4 + number_at 4 image at ≤ length image
-  fits ws at walk early = ⊎_elim (λ long. absurd (next_sound ws at walk early at _ (past_end long))) (λ le. le) (cases_lt (length image) (at + 4 + number_at 4 image at))
-
-  small : (ws : List (List ℕ)) (at : ℕ) → Walks image ws at → at < length image → number_at 4 image at ≤ 268435456
-  small ws at walk early = ⊎_elim
-      (λ large. absurd (next_sound ws at walk early at _ (too_large (omega (arith, fits ws at walk early)) large)))
-      (λ le. le)
-      (cases_lt 268435456 (number_at 4 image at))
-
-  next_feature : (ws : List (List ℕ)) (at : ℕ) → Walks image ws at → at < length image → IsFeature (outer_type image) (piece_at image at)
-  next_feature ws at walk early =
-      let size = number_at 4 image at in
-      let room = fits ws at walk early in
-      let le : at + (4 + size) ≤ length image = omega (arith, room) in
-      let buffer : slice_range (piece_at image at) 4 (length (piece_at image at)) ≡ slice_range image (at + 4) (at + 4 + size) =
-      ap (λ n. slice_range (piece_at image at) 4 n) (length-slice image at (4 + size) le) ∙ slice-slice image at (4 + size) 4 size (omega arith) in
+  next_framed : (ws : List (List ℕ)) (at : ℕ) → Passes image ws at → at < length image → IsFramed image at
+  next_framed ws at passes early =
+      let fits : at + 4 + size_at image at ≤ length image =
+      ⊎_elim (λ long. absurd (next_sound ws at passes early at _ (in_prefix (past_end long)))) (λ le. le) (cases_lt (length image) (at + 4 + size_at image at)) in
       record {
-        framed = piece_framed image at room (small ws at walk early);
-        clean = λ q r broken. next_sound ws at walk early (at + 4 + q) r (inside room (small ws at walk early) (subst (λ b. BreaksBuffer b (feature_root (outer_type image)) q r) buffer broken));
+        fits = fits;
+        small = ⊎_elim (λ large. absurd (next_sound ws at passes early at _ (in_prefix (too_large (omega arith) large)))) (λ le. le) (cases_lt 268435456 (size_at image at));
       }
 
-  walk_on : (fuel : ℕ) (ws : List (List ℕ)) (at : ℕ) → Walks image ws at → AllByRecursion (IsFeature (outer_type image)) ws → length image - at ≤ fuel → (fs : List (List ℕ)) × IsFile image fs
-  walk_on zero ws at walk each le = (ws, walk_whole image ws at unindexed walk (omega arith) each)
-  walk_on (suc fuel) ws at walk each le = ⊎_elim
-      (λ early. walk_on fuel (ws ++ piece_at image at ∷ []) (at + (4 + number_at 4 image at))
-      (walk_step image ws at walk (fits ws at walk early) (small ws at walk early))
-      (all-append (IsFeature (outer_type image)) ws (piece_at image at ∷ []) each (next_feature ws at walk early, tt))
-      (omega (arith, le, early)))
-      (λ end. (ws, walk_whole image ws at unindexed walk end each))
-      (cases_lt at (length image))
+  -- at the end their number agrees
+  whole : (ws : List (List ℕ)) → Passes image ws (length image) → (fs : List (List ℕ)) × IsFile image fs
+  whole ws passes = elim (agrees_cases (told_count image) (length ws)) [
+    | inl few ↦ absurd (unbroken _ (first_end image passes (too_few few)))
+    | inr (inl many) ↦ absurd (unbroken _ (first_end image passes (too_many many.0 many.1)))
+    | inr (inr agrees) ↦ (ws, passes_file image passes (omega arith) agrees)
+  ]
 
-  pub valid_file : (fs : List (List ℕ)) × IsFile image fs
-  valid_file = walk_on (length image) [] (header_end image) (walk_start image start) tt (omega arith)
+  go_on : (fuel : ℕ) (ws : List (List ℕ)) (at : ℕ) → Passes image ws at → length image - at ≤ fuel → (fs : List (List ℕ)) × IsFile image fs
+  go_on zero ws at passes le = whole ws (passes_end image passes (omega arith))
+  go_on (suc fuel) ws at passes le = elim (cases_lt at (length image)) [
+    | inl early ↦ let framed = next_framed ws at passes early in
+        go_on fuel (ws ++ piece_at image at ∷ []) (at + (4 + size_at image at))
+        (passes_more image passes framed (λ q r broken. next_sound ws at passes early (at + 4 + q) r (in_buffer framed broken)))
+        (omega (arith, le, early))
+    | inr end ↦ whole ws (passes_end image passes end)
+  ]
+
+  pub unbroken_file : (fs : List (List ℕ)) × IsFile image fs
+  unbroken_file = go_on (length image) [] (header_end image) (passes_none image unindexed) (omega arith)
+
+module _ (image : List ℕ) where
+  pub valid_file : IsValid image → (fs : List (List ℕ)) × IsFile image fs
+  valid_file valid = unbroken_file image (λ e first. first_invalid image first valid)
+
+  pub unbroken_valid : ((e : Broken) → BreaksFirst image e → ⊥) → IsValid image
+  unbroken_valid unbroken = let file = unbroken_file image unbroken in file_sound image file.1

@@ -1,15 +1,17 @@
--- How a walk over the features begins, goes on and ends, and that what it passes is a front of a file's features.
-use Rattle.std.proofs.Common.{◌≡◌, ⊎_elim, ℕ, ◌+◌, ◌≤◌, ◌<◌, true, false, List, [], ◌∷◌, ◌++◌, length, get_or, take, drop, slice_range, refl, sym, ap, subst, ◌∙◌, arith, length-append, length-take, length-drop}
+-- How a walk over the features begins and goes on, and that of two walks over one file the shorter is a front of the
+-- longer, so that what a sound walk has passed breaks nothing.
+use Rattle.std.proofs.Common.{◌≡◌, inl, inr, ℕ, ◌+◌, ◌-◌, ◌*◌, ◌≤◌, ◌<◌, List, [], ◌∷◌, ◌++◌, length, take, drop, slice_range, refl, sym, ap, subst, ◌∙◌, arith, length-append, length-take, length-drop}
 use Rattle.std.specs.List.{AllByRecursion, concat}
-use Rattle.std.proofs.lemmas.List.{append-nil, append_assoc, append_cancel_left, take-append-drop, take_all, take_at, get_or-take}
+use Rattle.std.proofs.lemmas.List.{append-nil, append_assoc, append_cancel_left, take-append-drop, take_at}
 use Rattle.std.proofs.Math.Seq.{take-add}
+use Rattle.std.proofs.lemmas.Bool.{cases_lt}
 use Rattle.std.proofs.lemmas.List.Folds.{concat-append}
-use Rattle.std.proofs.lemmas.Bool.{true≢false}
 use Rattle.flat_layout.specs.declared.Rule.{Rule}
 use Rattle.flat_layout.specs.Layout.{number_at}
 use Rattle.fgb_schema.specs.Paths.{feature_root}
 use Rattle.fgb_schema.specs.Weights.{BreaksBuffer}
-use Rattle.fgb_file.specs.File.{header_end, outer_type, IsStart, IsUnindexed, IsPiece, IsFeature, Walks, IsFile, BreaksFeature, past_end, too_large, inside, BreaksFile, file_size, short, magic_byte, header_size_past, in_header, indexed, in_feature}
+use Rattle.fgb_schema.specs.Headers.{Header}
+use Rattle.fgb_file.specs.File.{header_end, header_in, size_at, buffer_at, IsStart, IsPiece, IsFeature, Walks, IsFramed, BreaksPrefix, past_end, too_large, BreaksFeature, in_prefix, in_buffer}
 use Rattle.fgb_file.proofs.Bytes.{slice_is, length-slice, number_at-slice, slice-slice, number_at-drop, number_at-append}
 use Rattle.fgb_file.proofs.Pieces.{pieces_front}
 
@@ -21,9 +23,19 @@ pub all-rest : {X : Type 0} (P : X → Type 0) (xs ys : List X) → AllByRecursi
 all-rest P [] ys all = all
 all-rest P (x ∷ xs) ys all = all-rest P xs ys all.1
 
-pub framed_all : (outer : ℕ) (ps : List (List ℕ)) → AllByRecursion (IsFeature outer) ps → AllByRecursion IsPiece ps
-framed_all outer [] all = tt
-framed_all outer (p ∷ ps) all = (all.0.framed, framed_all outer ps all.1)
+pub framed_all : (header : Header) (ps : List (List ℕ)) → AllByRecursion (IsFeature header) ps → AllByRecursion IsPiece ps
+framed_all header [] all = tt
+framed_all header (p ∷ ps) all = (all.0.framed, framed_all header ps all.1)
+
+-- pieces without a byte are none
+pub no_more : (rest : List (List ℕ)) → AllByRecursion IsPiece rest → length (concat rest) ≡ 0 → rest ≡ []
+no_more [] each empty = refl
+no_more (p ∷ ps) each empty = absurd (omega (arith, empty, length-append p (concat ps), each.0.sized))
+
+-- each piece has the four bytes of its size prefix
+pub pieces_long : (ps : List (List ℕ)) → AllByRecursion IsPiece ps → 4 * length ps ≤ length (concat ps)
+pieces_long [] each = omega arith
+pieces_long (p ∷ ps) each = omega (arith, pieces_long ps each.1, length-append p (concat ps), each.0.sized)
 
 module _ (image : List ℕ) where
   pub walk_start : IsStart image → Walks image [] (header_end image)
@@ -31,27 +43,43 @@ module _ (image : List ℕ) where
 
   -- the piece at a place
   abbrev pub piece_at : ℕ → List ℕ
-  piece_at at = slice_range image at (at + (4 + number_at 4 image at))
+  piece_at at = slice_range image at (at + (4 + size_at image at))
 
-  pub piece_framed : (at : ℕ) → at + 4 + number_at 4 image at ≤ length image → number_at 4 image at ≤ 268435456 → IsPiece (piece_at at)
-  piece_framed at fits small =
-      let room : at + (4 + number_at 4 image at) ≤ length image = omega arith in
-      let size = number_at-slice 4 (4 + number_at 4 image at) at image (omega arith) room in
-      record { sized = length-slice image at (4 + number_at 4 image at) room ∙ ap (λ n. 4 + n) (sym size); small = subst (λ n. n ≤ 268435456) (sym size) small }
+  piece_inside : (at : ℕ) → IsFramed image at → at + (4 + size_at image at) ≤ length image
+  piece_inside at framed = omega (arith, framed.fits)
 
-  pub walk_step : (ws : List (List ℕ)) (at : ℕ) → Walks image ws at → at + 4 + number_at 4 image at ≤ length image → number_at 4 image at ≤ 268435456
-      → Walks image (ws ++ piece_at at ∷ []) (at + (4 + number_at 4 image at))
-  walk_step ws at walk fits small = record {
+  pub piece_length : (at : ℕ) → IsFramed image at → length (piece_at at) ≡ 4 + size_at image at
+  piece_length at framed = length-slice image at (4 + size_at image at) (piece_inside at framed)
+
+  pub piece_framed : (at : ℕ) → IsFramed image at → IsPiece (piece_at at)
+  piece_framed at framed =
+      let size = number_at-slice 4 (4 + size_at image at) at image (omega arith) (piece_inside at framed) in
+      record { sized = piece_length at framed ∙ ap (λ n. 4 + n) (sym size); small = subst (λ n. n ≤ 268435456) (sym size) framed.small }
+
+  -- its buffer
+  pub piece_buffer : (at : ℕ) → IsFramed image at → slice_range (piece_at at) 4 (length (piece_at at)) ≡ buffer_at image at
+  piece_buffer at framed =
+      ap (slice_range (piece_at at) 4) (piece_length at framed)
+      ∙ slice-slice image at (4 + size_at image at) 4 (size_at image at) (omega arith)
+
+  pub piece_feature : (header : Header) (at : ℕ) → IsFramed image at → ((q : ℕ) (r : Rule) → BreaksBuffer (buffer_at image at) (feature_root header) q r → ⊥) → IsFeature header (piece_at at)
+  piece_feature header at framed clean = record {
+    framed = piece_framed at framed;
+    clean = λ q r broken. clean q r (subst (λ b. BreaksBuffer b (feature_root header) q r) (piece_buffer at framed) broken);
+  }
+
+  pub walk_step : (ws : List (List ℕ)) (at : ℕ) → Walks image ws at → IsFramed image at → Walks image (ws ++ piece_at at ∷ []) (at + (4 + size_at image at))
+  walk_step ws at walk framed = record {
     front =
-        take-add at (4 + number_at 4 image at) image
-        ∙ ap (λ xs. xs ++ take (4 + number_at 4 image at) (drop at image)) walk.front
-        ∙ append_assoc (take (header_end image) image) (concat ws) (take (4 + number_at 4 image at) (drop at image))
+        take-add at (4 + size_at image at) image
+        ∙ ap (λ xs. xs ++ take (4 + size_at image at) (drop at image)) walk.front
+        ∙ append_assoc (take (header_end image) image) (concat ws) (take (4 + size_at image at) (drop at image))
         ∙ ap (λ xs. take (header_end image) image ++ xs) (
-        ap (λ xs. concat ws ++ xs) (sym (slice_is image at (4 + number_at 4 image at)) ∙ sym (append-nil (piece_at at)))
+        ap (λ xs. concat ws ++ xs) (sym (slice_is image at (4 + size_at image at)) ∙ sym (append-nil (piece_at at)))
         ∙ sym (concat-append ws (piece_at at ∷ [])));
     above = omega (arith, walk.above);
-    within = omega arith;
-    each = all-append IsPiece ws (piece_at at ∷ []) walk.each (piece_framed at fits small, tt);
+    within = piece_inside at framed;
+    each = all-append IsPiece ws (piece_at at ∷ []) walk.each (piece_framed at framed, tt);
   }
 
   -- the features passed so far lie between the header's end and the place
@@ -60,76 +88,60 @@ module _ (image : List ℕ) where
       let all = ap length walk.front in
       omega (arith, all, length-append (take (header_end image) image) (concat ws), length-take (header_end image) image, length-take at image, walk.above, walk.within)
 
-  -- a walk to the end over features that break no rule: a file
-  pub walk_whole : (ws : List (List ℕ)) (at : ℕ) → IsUnindexed image → Walks image ws at → length image ≤ at → AllByRecursion (IsFeature (outer_type image)) ws → IsFile image ws
-  walk_whole ws at unindexed walk end each = record { unindexed = unindexed; whole = sym (take_all at image end) ∙ walk.front; each = each }
+  -- a walk that came no further has passed a front of the pieces
+  pub walk_front : (ps ws : List (List ℕ)) (end at : ℕ) → Walks image ps end → Walks image ws at → at ≤ end
+      → (rest : List (List ℕ)) × (ps ≡ ws ++ rest) × (concat rest ≡ take (end - at) (drop at image))
+  walk_front ps ws end at long short le = pieces_front ps ws (take (end - at) (drop at image)) long.each short.each (
+      append_cancel_left (take (header_end image) image) (concat ps) (concat ws ++ take (end - at) (drop at image)) (
+      sym long.front
+      ∙ ap (λ n. take n image) (let e : end ≡ at + (end - at) = omega arith in e)
+      ∙ take-add at (end - at) image
+      ∙ ap (λ xs. xs ++ take (end - at) (drop at image)) short.front
+      ∙ append_assoc (take (header_end image) image) (concat ws) (take (end - at) (drop at image))))
 
-  -- what a walk has passed is a front of the file's features
-  pub file_front : (fs ws : List (List ℕ)) (at : ℕ) → IsFile image fs → Walks image ws at → (rest : List (List ℕ)) × (fs ≡ ws ++ rest) × (concat rest ≡ drop at image)
-  file_front fs ws at file walk = pieces_front fs ws (drop at image) (framed_all (outer_type image) fs file.each) walk.each (
-      append_cancel_left (take (header_end image) image) (concat fs) (concat ws ++ drop at image)
-      (sym file.whole ∙ sym (take-append-drop at image) ∙ ap (λ xs. xs ++ drop at image) walk.front ∙ append_assoc (take (header_end image) image) (concat ws) (drop at image)))
+  -- a walk with fewer pieces stands in front of one with more
+  pub walk_earlier : (ps ws : List (List ℕ)) (end at : ℕ) → Walks image ps end → Walks image ws at → length ws < length ps → at < end
+  walk_earlier ps ws end at long short fewer = elim (cases_lt at end) [
+    | inl earlier ↦ earlier
+    | inr le ↦ let front = walk_front ws ps at end short long le in absurd (omega (arith, ap length front.1, length-append ps front.0, fewer))
+  ]
 
-  -- the feature where a walk stands breaks nothing where the file breaks none
-  next_sound : (fs ws : List (List ℕ)) (at : ℕ) → IsFile image fs → Walks image ws at → at < length image → (q : ℕ) (r : Rule) → BreaksFeature image at q r → ⊥
-  next_sound fs ws at file walk early q r broken =
-      let front = file_front fs ws at file walk in
-      at_first front.0 front.2 (all-rest (IsFeature (outer_type image)) ws front.0 (subst (λ xs. AllByRecursion (IsFeature (outer_type image)) xs) front.1 file.each)) q r broken
+  -- the feature at a place breaks nothing where what stands there is a sound one
+  feature_sound : (at : ℕ) (p after : List ℕ) → p ++ after ≡ drop at image → IsFeature (header_in image) p → (q : ℕ) (r : Rule) → BreaksFeature image at q r → ⊥
+  feature_sound at p after is feature = sound
     where
-      at_first : (rest : List (List ℕ)) → concat rest ≡ drop at image → AllByRecursion (IsFeature (outer_type image)) rest → (q : ℕ) (r : Rule) → BreaksFeature image at q r → ⊥
-      at_first [] is each q r broken = absurd (omega (arith, ap length is, length-drop at image, early))
-      at_first (p ∷ ps) is each q r broken = absurd_at q r broken
-        where
-          size : number_at 4 image at ≡ number_at 4 p 0
-          size = sym (number_at-drop 4 at image) ∙ ap (λ s. number_at 4 s 0) (sym is) ∙ number_at-append 4 p (concat ps) (omega (arith, each.0.framed.sized))
+      size : size_at image at ≡ number_at 4 p 0
+      size = sym (number_at-drop 4 at image) ∙ ap (λ s. number_at 4 s 0) (sym is) ∙ number_at-append 4 p after (omega (arith, feature.framed.sized))
 
-          fits : at + length p ≤ length image
-          fits = omega (arith, ap length is, length-append p (concat ps), length-drop at image)
+      fits : at + length p ≤ length image
+      fits = omega (arith, ap length is, length-append p after, length-drop at image, feature.framed.sized)
 
-          same : p ≡ slice_range image at (at + length p)
-          same = sym (take_at p (concat ps) (length p) refl) ∙ ap (take (length p)) is ∙ sym (slice_is image at (length p))
+      same : p ≡ slice_range image at (at + length p)
+      same = sym (take_at p after (length p) refl) ∙ ap (take (length p)) is ∙ sym (slice_is image at (length p))
 
-          absurd_at : (q : ℕ) (r : Rule) → BreaksFeature image at q r → ⊥
-          absurd_at q r (past_end long) = omega (arith, long, fits, size, each.0.framed.sized)
-          absurd_at q r (too_large room large) = omega (arith, large, size, each.0.framed.small)
-          absurd_at q r (inside {q = k} {r = rule} room small broken) = each.0.clean k rule (subst (λ b. BreaksBuffer b (feature_root (outer_type image)) k rule) buffer broken)
-            where
-              buffer : slice_range image (at + 4) (at + 4 + number_at 4 image at) ≡ slice_range p 4 (length p)
-              buffer =
-                  sym (slice-slice image at (length p) 4 (number_at 4 image at) (omega (arith, size, each.0.framed.sized)))
-                  ∙ ap (λ s. slice_range s 4 (4 + number_at 4 image at)) (sym same)
-                  ∙ ap (λ n. slice_range p 4 n) (let e : 4 + number_at 4 image at ≡ length p = omega (arith, size, each.0.framed.sized) in e)
+      buffer : buffer_at image at ≡ slice_range p 4 (length p)
+      buffer =
+          sym (slice-slice image at (length p) 4 (size_at image at) (omega (arith, size, feature.framed.sized)))
+          ∙ ap (λ s. slice_range s 4 (4 + size_at image at)) (sym same)
+          ∙ ap (λ n. slice_range p 4 n) (let e : 4 + size_at image at ≡ length p = omega (arith, size, feature.framed.sized) in e)
 
-  -- a whole file breaks no rule anywhere
-  pub file_sound : (fs : List (List ℕ)) → IsFile image fs → (q : ℕ) (r : Rule) → BreaksFile image q r → ⊥
-  file_sound fs file q r (file_size long) = omega (arith, long, file.unindexed.header.start.sized.short)
-  file_sound fs file q r (short few) = omega (arith, few, file.unindexed.header.start.sized.long)
-  file_sound fs file q r (magic_byte {q = k} sized differs) = differs.other (
-      sym (get_or-take 7 image k 0 differs.early) ∙ ap (λ s. get_or s k 0) file.unindexed.header.start.magic)
-  file_sound fs file q r (header_size_past sized is wrong) = ⊎_elim
-      (λ large. omega (arith, large, file.unindexed.header.start.small))
-      (λ past. omega (arith, past, file.unindexed.header.start.inside))
-      wrong
-  file_sound fs file q r (in_header {q = k} {r = rule} start broken) = file.unindexed.header.clean k rule broken
-  file_sound fs file q r (indexed header has) = let e : true ≡ false = cc (has, file.unindexed.unindexed) in true≢false e
-  file_sound fs file q r (in_feature {pieces = ws} {at = at} {q = k} {r = rule} unindexed walk early broken) = next_sound fs ws at file walk early k rule broken
+      prefix : (r : Rule) → BreaksPrefix image at r → ⊥
+      prefix r (past_end long) = omega (arith, long, fits, size, feature.framed.sized)
+      prefix r (too_large room large) = omega (arith, large, size, feature.framed.small)
 
-  -- a whole file is a walk to its end
-  pub walk_of_file : (fs : List (List ℕ)) → IsFile image fs → Walks image fs (length image)
-  walk_of_file fs file = record {
-    front = take_all (length image) image (omega arith) ∙ file.whole;
-    above = file.unindexed.header.start.inside;
-    within = omega arith;
-    each = framed_all (outer_type image) fs file.each;
-  }
+      sound : (q : ℕ) (r : Rule) → BreaksFeature image at q r → ⊥
+      sound q r (in_prefix {r = rule} broken) = prefix rule broken
+      sound q r (in_buffer {q = k} {r = rule} framed broken) = feature.clean k rule (subst (λ b. BreaksBuffer b (feature_root (header_in image)) k rule) buffer broken)
 
-  no_more : (outer : ℕ) (rest : List (List ℕ)) → AllByRecursion (IsFeature outer) rest → length (concat rest) ≡ 0 → rest ≡ []
-  no_more outer [] each none = refl
-  no_more outer (p ∷ ps) each none = absurd (omega (arith, none, length-append p (concat ps), each.0.framed.sized))
-
-  -- a file has one list of features
-  pub files_same : (fs gs : List (List ℕ)) → IsFile image fs → IsFile image gs → fs ≡ gs
-  files_same fs gs file other =
-      let front = file_front fs gs (length image) file (walk_of_file gs other) in
-      let none = no_more (outer_type image) front.0 (all-rest (IsFeature (outer_type image)) gs front.0 (subst (λ xs. AllByRecursion (IsFeature (outer_type image)) xs) front.1 file.each)) (omega (arith, ap length front.2, length-drop (length image) image)) in
-      front.1 ∙ ap (λ xs. gs ++ xs) none ∙ append-nil gs
+  -- where a walk passed sound features, an earlier place of a walk breaks nothing
+  pub passed_sound : (ps ws : List (List ℕ)) (end at : ℕ) → Walks image ps end → AllByRecursion (IsFeature (header_in image)) ps → Walks image ws at → at < end → (q : ℕ) (r : Rule) → BreaksFeature image at q r → ⊥
+  passed_sound ps ws end at long each short earlier =
+      let front = walk_front ps ws end at long short (omega (arith, earlier)) in
+      first_of_rest front.0 front.2 (all-rest (IsFeature (header_in image)) ws front.0 (subst (λ xs. AllByRecursion (IsFeature (header_in image)) xs) front.1 each))
+    where
+      first_of_rest : (rest : List (List ℕ)) → concat rest ≡ take (end - at) (drop at image) → AllByRecursion (IsFeature (header_in image)) rest → (q : ℕ) (r : Rule) → BreaksFeature image at q r → ⊥
+      first_of_rest [] is all = absurd (omega (arith, ap length is, length-take (end - at) (drop at image), length-drop at image, earlier, long.within))
+      first_of_rest (p ∷ qs) is all = feature_sound at p (concat qs ++ drop (end - at) (drop at image)) (
+          sym (append_assoc p (concat qs) (drop (end - at) (drop at image)))
+          ∙ ap (λ xs. xs ++ drop (end - at) (drop at image)) is
+          ∙ take-append-drop (end - at) (drop at image)) all.0

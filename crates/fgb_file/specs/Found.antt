@@ -4,6 +4,7 @@ use Rattle.std.specs.List.{filter, flat_map}
 use Rattle.order_keys.specs.declared.bounds.Bounds.{Bounds}
 use Rattle.order_keys.specs.Keys.{digits_of}
 use Rattle.order_keys.specs.Boxes.{meets}
+use Rattle.fgb_schema.specs.Headers.{Header}
 use Rattle.fgb_schema.specs.Features.{feature_of, own_box}
 
 -- a feature of a file: its number, the place of its size prefix from the first feature on, the size of its buffer,
@@ -14,19 +15,19 @@ pub record Entry : Type 0 where
   pub size : ℕ
   pub own : Bounds
 
--- the box of the feature in a piece, which is a size prefix and a buffer, under a header of this geometry type
-abbrev pub box_of : ℕ → List ℕ → Bounds
-box_of outer piece = own_box (feature_of outer (slice_range piece 4 (length piece)))
+-- the box of the feature in a piece, which is a size prefix and a buffer, under a header
+abbrev pub box_of : Header → List ℕ → Bounds
+box_of header piece = own_box (feature_of header (slice_range piece 4 (length piece)))
 
 -- all features of a file, the first of these with this number and offset
-abbrev pub entries : ℕ → ℕ → ℕ → List (List ℕ) → List Entry
-entries outer number offset [] = []
-entries outer number offset (piece ∷ rest) =
-    record { number = number; offset = offset; size = length piece - 4; own = box_of outer piece } ∷ entries outer (number + 1) (offset + length piece) rest
+abbrev pub entries : Header → ℕ → ℕ → List (List ℕ) → List Entry
+entries header number offset [] = []
+entries header number offset (piece ∷ rest) =
+    record { number = number; offset = offset; size = length piece - 4; own = box_of header piece } ∷ entries header (number + 1) (offset + length piece) rest
 
 -- those whose own box meets the box of the query, in file order
-abbrev pub found : ℕ → Bounds → List (List ℕ) → List Entry
-found outer query pieces = filter (λ e. meets e.own query) (entries outer 0 0 pieces)
+abbrev pub found : Header → Bounds → List (List ℕ) → List Entry
+found header query pieces = filter (λ e. meets e.own query) (entries header 0 0 pieces)
 
 -- four patterns, a blank between two
 abbrev pub box_text : Bounds → List ℕ
@@ -40,5 +41,5 @@ unfoldable pub lines : List Entry → List ℕ
 lines found = flat_map line found
 
 -- the lines of the found ones among these features
-abbrev pub answer : ℕ → Bounds → List (List ℕ) → List ℕ
-answer outer query pieces = lines (found outer query pieces)
+abbrev pub answer : Header → Bounds → List (List ℕ) → List ℕ
+answer header query pieces = lines (found header query pieces)

@@ -1,13 +1,15 @@
 //! What a FlatGeobuf file is, as a list of bytes, and what a query finds in it.
 //!
 //! The definitions in `specs/` say which files break no rule (`File`: `IsFile`), which rule is broken at
-//! which place (`BreaksFile`), which parts of a source may be asked for (`IsDeclared`), and which features
-//! a box finds and how they are written (`Found`: `found`, `lines`). The crates above promise what stands
-//! here. The one call is a law over the definitions, and does nothing when it runs.
+//! which place (`BreaksFile`) and in which unit first (`BreaksFirst`), which parts of a source may be asked
+//! for (`IsDeclared`), and which features a box finds and how they are written (`Found`: `found`, `lines`).
+//! The crates above promise what stands here. The two calls are laws over the definitions, and do nothing
+//! when they run.
 #![tactic(auto)]
 
 ghost use Rattle.std.specs.Prelude.{◌≡◌, ℕ, List};
-ghost use Rattle.fgb_file.specs.File.{IsValid, IsFile};
+ghost use Rattle.flat_layout.specs.declared.Broken.{Broken};
+ghost use Rattle.fgb_file.specs.File.{IsValid, IsFile, BreaksFirst};
 
 /// A file breaks no rule exactly where it is a start, a header and features that break none, and then
 /// there is one list of its features.
@@ -15,4 +17,12 @@ pub fn files_are_features()
     ensures whole { (image : List ℕ) → IsValid image → (pieces : List (List ℕ)) × IsFile image pieces }
     ensures sound { (image : List ℕ) (pieces : List (List ℕ)) → IsFile image pieces → IsValid image }
     ensures one { (image : List ℕ) (pieces others : List (List ℕ)) → IsFile image pieces → IsFile image others → pieces ≡ others }
+{}
+
+/// A refusal that names what is broken in the first broken unit comes only of a file that breaks a rule;
+/// there is one such unit; and a file of which no such refusal can come breaks no rule.
+pub fn refusals_are_of_invalid_files()
+    ensures first { (image : List ℕ) (e : Broken) → BreaksFirst image e → IsValid image → ⊥ }
+    ensures one { (image : List ℕ) (e f : Broken) (a : BreaksFirst image e) (b : BreaksFirst image f) → a.unit ≡ b.unit }
+    ensures some { (image : List ℕ) → ((e : Broken) → BreaksFirst image e → ⊥) → IsValid image }
 {}

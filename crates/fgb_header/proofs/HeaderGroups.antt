@@ -9,8 +9,8 @@ use Rattle.flat_layout.specs.Layout.{is_table, is_absent, led_to, number_in, tex
 use Rattle.flat_layout.specs.Promises.{IsClean, BreaksField, BreaksText, BreaksTo, BreaksVector}
 use Rattle.flat_layout.proofs.Numbers.{text_in-absent, text_in-present}
 use Rattle.fgb_schema.specs.Tables.{header, column, numbers, tables, string, link, scalar, fields, header_fields, Content, crs, table}
-use Rattle.fgb_schema.specs.Paths.{field, IsAmong, BreaksByTable, Breaks, header_part}
-use Rattle.fgb_schema.specs.Headers.{header_at}
+use Rattle.fgb_schema.specs.Paths.{field, IsAmong, BreaksByTable, Breaks, header_part, columns_field}
+use Rattle.fgb_schema.specs.Headers.{header_at, columns_in}
 use Rattle.fgb_schema.specs.Weights.{text_weight}
 use Rattle.fgb_schema.proofs.Roots.{readable, from_scalar, scalar_clean}
 use Rattle.fgb_schema.proofs.FieldParts.{from_text, text_clean, from_numbers, vector_clean}
@@ -18,7 +18,7 @@ use Rattle.fgb_schema.proofs.TableParts.{from_field, from_table, table_clean}
 use Rattle.fgb_header.specs.declared.header.Own.{Own}
 use Rattle.fgb_header.specs.declared.columns.Columns.{Columns}
 use Rattle.fgb_header.specs.Views.{columns_shown, header_shown}
-use Rattle.fgb_header.specs.Groups.{BreaksTexts, in_name, in_title, in_description, in_metadata, BreaksFlags, in_z, in_m, in_t, in_tm, BreaksKind, in_kind, other_kind, BreaksNodeSize, in_node_size, other_node_size, BreaksOwn, by_texts, by_envelope, by_kind, by_flags, by_count, by_node_size, by_crs, crs_field, columns_field, columns_in, envelope_in}
+use Rattle.fgb_header.specs.Groups.{BreaksTexts, in_name, in_title, in_description, in_metadata, BreaksFlags, in_z, in_m, in_t, in_tm, BreaksKind, in_kind, other_kind, BreaksNodeSize, in_node_size, other_node_size, BreaksOwn, by_texts, by_envelope, by_kind, by_flags, by_count, by_node_size, by_crs, crs_field, envelope_in}
 use Rattle.fgb_header.specs.GroupViews.{ShowsOwn}
 
 -- a text is in its buffer
@@ -99,7 +99,7 @@ module _ (b : List ℕ) (t : ℕ) (sound : is_table b t ≡ true) where
   own_broken q r (by_node_size broken) = node_size_broken q r broken
   own_broken q r (by_crs broken) = from_id 10 (link (table crs)) refl q r broken
 
-  pub columns_broken : (q : ℕ) (r : Rule) → Breaks b (columns_field t) q r → Breaks b (header_part t) q r
+  pub columns_broken : (q : ℕ) (r : Rule) → Breaks b (columns_field t 7) q r → Breaks b (header_part t) q r
   columns_broken q r broken = from_id 7 (link (tables column)) refl q r broken
 
   rules_clean : IsClean (BreaksOwn b t) → IsClean (BreaksByTable header b t)
@@ -107,7 +107,7 @@ module _ (b : List ℕ) (t : ℕ) (sound : is_table b t ≡ true) where
   rules_clean clean q r (inl broken) = clean q r (by_kind (other_kind broken))
   rules_clean clean q r (inr broken) = clean q r (by_node_size (other_node_size broken))
 
-  pub header_clean : IsClean (BreaksOwn b t) → IsClean (Breaks b (columns_field t)) → IsClean (Breaks b (header_part t))
+  pub header_clean : IsClean (BreaksOwn b t) → IsClean (Breaks b (columns_field t 7)) → IsClean (Breaks b (header_part t))
   unfolding fields
   header_clean clean columns = table_clean b header t sound (rules_clean clean) (
       text_clean b t 0 (λ q r broken. clean q r (by_texts (in_name broken)))
@@ -144,7 +144,7 @@ pub envelope-present : (b : List ℕ) (t : ℕ) → is_absent b t 1 ≡ false �
 envelope-present b t present = rw present refl
 
 -- a header is what its groups and its columns show
-pub header_is : (b : List ℕ) (t : ℕ) (own : Own) (columns : Columns) → ShowsOwn b t own → columns_shown columns ≡ columns_in b t → header_shown (record { own = own; columns = columns }) ≡ header_at b t
+pub header_is : (b : List ℕ) (t : ℕ) (own : Own) (columns : Columns) → ShowsOwn b t own → columns_shown columns ≡ columns_in b t 7 → header_shown (record { own = own; columns = columns }) ≡ header_at b t
 unfolding header_at
 header_is b t own columns shows same = rw (
   shows.texts.name,

@@ -15,8 +15,8 @@ use Rattle.flat_views.specs.Tables.{IsTableAt, base_of, bytes_of, place_of}
 use Rattle.flat_views.specs.TableVecs.{ShowsTables, tables_base, tables_bytes, tables_place}
 use Rattle.flat_views.proofs.Placed.{at_list}
 use Rattle.fgb_schema.specs.Tables.{column, crs, table as table_thing, tables as tables_thing}
-use Rattle.fgb_schema.specs.Paths.{Breaks, columns_part, crs_part}
-use Rattle.fgb_schema.specs.Headers.{crs_at, columns_at}
+use Rattle.fgb_schema.specs.Paths.{Breaks, columns_part, crs_part, columns_field}
+use Rattle.fgb_schema.specs.Headers.{crs_at, columns_at, columns_in}
 use Rattle.fgb_schema.specs.Weights.{Goes}
 use Rattle.fgb_schema.proofs.Links.{IsLink, linked}
 use Rattle.fgb_schema.proofs.FieldParts.{from_linked_table, to_table_clean, from_linked_tables, to_tables_clean}
@@ -24,7 +24,7 @@ use Rattle.fgb_schema.proofs.Weighing.{weigh_absent, weigh_link, least_link, lea
 use Rattle.fgb_header.specs.declared.crs.CrsView.{CrsView}
 use Rattle.fgb_header.specs.declared.columns.Columns.{Columns}
 use Rattle.fgb_header.specs.Views.{crs_shown, columns_shown}
-use Rattle.fgb_header.specs.Groups.{crs_field, columns_field, columns_in}
+use Rattle.fgb_header.specs.Groups.{crs_field}
 
 module _ (b : List ℕ) (t : ℕ) where
   no_link : (id : ℕ) → is_absent b t id ≡ true → IsLink b t id → ⊥
@@ -57,49 +57,50 @@ module _ (b : List ℕ) (t : ℕ) where
       (subst (λ s. Judges base (Breaks s (crs_part (place_of table))) (λ c. crs_shown c ≡ crs_at s (place_of table)) r) at.same_bytes
       (subst (λ k. Judges k (Breaks (bytes_of table) (crs_part (place_of table))) (λ c. crs_shown c ≡ crs_at (bytes_of table) (place_of table)) r) at.same_base judged)))
 
-  columns-absent : is_absent b t 7 ≡ true → columns_in b t ≡ []
-  columns-absent absent = rw absent refl
+  module _ (f : ℕ) where
+    columns-absent : is_absent b t f ≡ true → columns_in b t f ≡ []
+    columns-absent absent = rw absent refl
 
-  columns-present : is_absent b t 7 ≡ false → columns_in b t ≡ columns_at b (led_to b t 7)
-  columns-present present = rw present refl
+    columns-present : is_absent b t f ≡ false → columns_in b t f ≡ columns_at b (led_to b t f)
+    columns-present present = rw present refl
 
-  columns_none : (base at before after : ℕ) (r : Result Columns Broken) → IsClean (BreaksTo (BreaksVector 4) b t 7) → is_absent b t 7 ≡ true
-      → IsOkAnd r (λ columns. columns_shown columns ≡ []) → after ≡ before
-      → Goes base b (columns_field t) at before after (λ columns. columns_shown columns ≡ columns_in b t) r
-  columns_none base at before after (Ok columns) clean absent none same = (
-    none ∙ sym (columns-absent absent),
-    to_tables_clean b t 7 column clean (λ l. absurd (no_link 7 absent l)),
-    record { amount = 0; weighs = weigh_absent b (tables_thing column) t 7 absent; taken = omega (arith, same) },
-  )
-  columns_none base at before after (Err e) clean absent none same = absurd none
+    columns_none : (base at before after : ℕ) (r : Result Columns Broken) → IsClean (BreaksTo (BreaksVector 4) b t f) → is_absent b t f ≡ true
+        → IsOkAnd r (λ columns. columns_shown columns ≡ []) → after ≡ before
+        → Goes base b (columns_field t f) at before after (λ columns. columns_shown columns ≡ columns_in b t f) r
+    columns_none base at before after (Ok columns) clean absent none same = (
+      none ∙ sym (columns-absent absent),
+      to_tables_clean b t f column clean (λ l. absurd (no_link f absent l)),
+      record { amount = 0; weighs = weigh_absent b (tables_thing column) t f absent; taken = omega (arith, same) },
+    )
+    columns_none base at before after (Err e) clean absent none same = absurd none
 
-  columns_some : (base at before after : ℕ) (r : Result Columns Broken) → IsClean (BreaksTo (BreaksVector 4) b t 7) → is_absent b t 7 ≡ false
-      → Goes base b (columns_part (led_to b t 7)) at before after (λ columns. columns_shown columns ≡ columns_at b (led_to b t 7)) r
-      → Goes base b (columns_field t) at before after (λ columns. columns_shown columns ≡ columns_in b t) r
-  columns_some base at before after (Ok columns) clean present goes =
-      let l = linked b (tables_thing column) (BreaksVector 4) t 7 clean present in (
-        goes.0 ∙ sym (columns-present present),
-        to_tables_clean b t 7 column clean (λ l. goes.1),
-        record { amount = goes.2.amount; weighs = weigh_link b (tables_thing column) t 7 goes.2.amount l goes.2.weighs; taken = goes.2.taken },
-      )
-  columns_some base at before after (Err e) clean present (inl named, less) =
-      let l = linked b (tables_thing column) (BreaksVector 4) t 7 clean present in
-      (inl (names-weaker base (Breaks b (columns_part (led_to b t 7))) (Breaks b (columns_field t)) e (from_linked_tables b t 7 column l) named), less)
-  columns_some base at before after (Err e) clean present (inr over, less) =
-      let l = linked b (tables_thing column) (BreaksVector 4) t 7 clean present in (
-        inr (record {
-          heavier = heavier b (columns_field t) (before + 1) before (least_link b (tables_thing column) t 7 (before + 1) l (least_heavier b (columns_part (led_to b t 7)) before over.heavier)) (omega arith);
-          at_place = over.at_place;
-          by_weight = over.by_weight;
-        }),
-        less,
-      )
+    columns_some : (base at before after : ℕ) (r : Result Columns Broken) → IsClean (BreaksTo (BreaksVector 4) b t f) → is_absent b t f ≡ false
+        → Goes base b (columns_part (led_to b t f)) at before after (λ columns. columns_shown columns ≡ columns_at b (led_to b t f)) r
+        → Goes base b (columns_field t f) at before after (λ columns. columns_shown columns ≡ columns_in b t f) r
+    columns_some base at before after (Ok columns) clean present goes =
+        let l = linked b (tables_thing column) (BreaksVector 4) t f clean present in (
+          goes.0 ∙ sym (columns-present present),
+          to_tables_clean b t f column clean (λ l. goes.1),
+          record { amount = goes.2.amount; weighs = weigh_link b (tables_thing column) t f goes.2.amount l goes.2.weighs; taken = goes.2.taken },
+        )
+    columns_some base at before after (Err e) clean present (inl named, less) =
+        let l = linked b (tables_thing column) (BreaksVector 4) t f clean present in
+        (inl (names-weaker base (Breaks b (columns_part (led_to b t f))) (Breaks b (columns_field t f)) e (from_linked_tables b t f column l) named), less)
+    columns_some base at before after (Err e) clean present (inr over, less) =
+        let l = linked b (tables_thing column) (BreaksVector 4) t f clean present in (
+          inr (record {
+            heavier = heavier b (columns_field t f) (before + 1) before (least_link b (tables_thing column) t f (before + 1) l (least_heavier b (columns_part (led_to b t f)) before over.heavier)) (omega arith);
+            at_place = over.at_place;
+            by_weight = over.by_weight;
+          }),
+          less,
+        )
 
-  -- what is read of the columns that the field leads to, if it is there
-  pub columns_go : (base at before after : ℕ) (list : Option TableVec) (r : Result Columns Broken) → IsClean (BreaksTo (BreaksVector 4) b t 7) → ShowsTables b base t 7 list
-      → MatchOption list (IsOkAnd r (λ columns. columns_shown columns ≡ []) × (after ≡ before)) (λ tables. ⊤)
-      → MatchOption list ⊤ (λ tables. Goes (tables_base tables) (tables_bytes tables) (columns_part (tables_place tables)) at before after (λ columns. columns_shown columns ≡ columns_at (tables_bytes tables) (tables_place tables)) r)
-      → Goes base b (columns_field t) at before after (λ columns. columns_shown columns ≡ columns_in b t) r
-  columns_go base at before after None r clean shows none some = columns_none base at before after r clean shows none.0 none.1
-  columns_go base at before after (Some list) r clean shows none some = columns_some base at before after r clean shows.0
-      (at_list base b (led_to b t 7) list shows.1 (λ k s p. Goes k s (columns_part p) at before after (λ columns. columns_shown columns ≡ columns_at s p) r) some)
+    -- what is read of the columns that the field leads to, if it is there
+    pub columns_go : (base at before after : ℕ) (list : Option TableVec) (r : Result Columns Broken) → IsClean (BreaksTo (BreaksVector 4) b t f) → ShowsTables b base t f list
+        → MatchOption list (IsOkAnd r (λ columns. columns_shown columns ≡ []) × (after ≡ before)) (λ tables. ⊤)
+        → MatchOption list ⊤ (λ tables. Goes (tables_base tables) (tables_bytes tables) (columns_part (tables_place tables)) at before after (λ columns. columns_shown columns ≡ columns_at (tables_bytes tables) (tables_place tables)) r)
+        → Goes base b (columns_field t f) at before after (λ columns. columns_shown columns ≡ columns_in b t f) r
+    columns_go base at before after None r clean shows none some = columns_none base at before after r clean shows none.0 none.1
+    columns_go base at before after (Some list) r clean shows none some = columns_some base at before after r clean shows.0
+        (at_list base b (led_to b t f) list shows.1 (λ k s p. Goes k s (columns_part p) at before after (λ columns. columns_shown columns ≡ columns_at s p) r) some)

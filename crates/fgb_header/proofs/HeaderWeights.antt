@@ -11,7 +11,7 @@ use Rattle.flat_layout.proofs.Numbers.{length-longs, place_in-absent, place_in-p
 use Rattle.flat_views.specs.declared.meter.Meter.{Meter}
 use Rattle.flat_views.specs.Meters.{IsTooHeavy, left_of, meter_place}
 use Rattle.fgb_schema.specs.Tables.{header, crs, numbers, string, link, scalar, table, fields, Content}
-use Rattle.fgb_schema.specs.Paths.{Part, field, Breaks, header_part}
+use Rattle.fgb_schema.specs.Paths.{Part, field, Breaks, header_part, columns_field}
 use Rattle.fgb_schema.specs.Headers.{crs_at}
 use Rattle.fgb_schema.specs.Weights.{Weighs, IsHeavier, IsOverspent, IsPaid, text_weight}
 use Rattle.fgb_schema.proofs.Links.{IsLink, linked, linked_own}
@@ -20,7 +20,7 @@ use Rattle.fgb_schema.proofs.FieldWeights.{weigh_text, weigh_vector}
 use Rattle.fgb_schema.proofs.TableParts.{field_part}
 use Rattle.fgb_schema.proofs.Weighing.{WeighTogether, IsLeast, AreLeast, together_none, together_more, least_more, least_of, least_together, least_heavier, least_table, heavier, weigh_absent, weigh_link, weigh_scalar, weigh_table}
 use Rattle.fgb_header.specs.declared.header.Own.{Own}
-use Rattle.fgb_header.specs.Groups.{BreaksOwn, by_texts, by_envelope, by_crs, in_name, in_title, in_description, in_metadata, crs_field, columns_field, envelope_in}
+use Rattle.fgb_header.specs.Groups.{BreaksOwn, by_texts, by_envelope, by_crs, in_name, in_title, in_description, in_metadata, crs_field, envelope_in}
 use Rattle.fgb_header.specs.GroupViews.{ShowsOwn, crs_part_weight, own_weight}
 use Rattle.fgb_header.proofs.HeaderGroups.{◌◁◌, columns_broken, envelope-absent, envelope-present}
 use Rattle.fgb_header.proofs.RecordWeights.{crs_weighs}
@@ -117,24 +117,24 @@ module _ (b : List ℕ) (t : ℕ) where
     rest : WeighTogether b (parts_before [] t behind) (sum_before 0 behind)
     rest = together_before b t behind [] 0 behind_weighs (together_none b)
 
-    weigh_fields : (c : ℕ) → Weighs b (columns_field t) c → WeighTogether b (map (field_part t) (fields header b t)) (sum_of c)
+    weigh_fields : (c : ℕ) → Weighs b (columns_field t 7) c → WeighTogether b (map (field_part t) (fields header b t)) (sum_of c)
     unfolding fields
-    weigh_fields c columns = together_before b t in_front (columns_field t ∷ parts_before [] t behind) (c + sum_before 0 behind) front_weighs
-        (together_more b (columns_field t) (parts_before [] t behind) c (sum_before 0 behind) columns rest)
+    weigh_fields c columns = together_before b t in_front (columns_field t 7 ∷ parts_before [] t behind) (c + sum_before 0 behind) front_weighs
+        (together_more b (columns_field t 7) (parts_before [] t behind) c (sum_before 0 behind) columns rest)
 
-    least_fields : (c : ℕ) → IsLeast b (columns_field t) c → AreLeast b (map (field_part t) (fields header b t)) (sum_of c)
+    least_fields : (c : ℕ) → IsLeast b (columns_field t 7) c → AreLeast b (map (field_part t) (fields header b t)) (sum_of c)
     unfolding fields
-    least_fields c columns = least_before b t in_front (columns_field t ∷ parts_before [] t behind) (c + sum_before 0 behind) front_weighs
-        (least_more b (columns_field t) (parts_before [] t behind) c (sum_before 0 behind) columns (least_together b (parts_before [] t behind) (sum_before 0 behind) rest))
+    least_fields c columns = least_before b t in_front (columns_field t 7 ∷ parts_before [] t behind) (c + sum_before 0 behind) front_weighs
+        (least_more b (columns_field t 7) (parts_before [] t behind) c (sum_before 0 behind) columns (least_together b (parts_before [] t behind) (sum_before 0 behind) rest))
 
     module _ (sound : is_table b t ≡ true) (own : Own) (shows : ShowsOwn b t own) where
       weighed : (c : ℕ) → 4 + sum_of c ≡ own_weight own + c
       weighed c = summed c ∙ ap (λ n. n + c) (sym (weight_is own shows))
 
-      weigh_header : (c : ℕ) → Weighs b (columns_field t) c → Weighs b (header_part t) (own_weight own + c)
+      weigh_header : (c : ℕ) → Weighs b (columns_field t 7) c → Weighs b (header_part t) (own_weight own + c)
       weigh_header c columns = subst (Weighs b (header_part t)) (weighed c) (weigh_table b header t (sum_of c) sound (weigh_fields c columns))
 
-      least_header : (c : ℕ) → IsLeast b (columns_field t) c → IsLeast b (header_part t) (own_weight own + c)
+      least_header : (c : ℕ) → IsLeast b (columns_field t 7) c → IsLeast b (header_part t) (own_weight own + c)
       least_header c columns = subst (IsLeast b (header_part t)) (weighed c) (least_table b header t (sum_of c) sound (least_fields c columns))
 
       -- less is left than the own fields weigh
@@ -146,12 +146,12 @@ module _ (b : List ℕ) (t : ℕ) where
       }
 
       -- less is left behind them than the columns weigh
-      columns_heavier : (before after : ℕ) → after + own_weight own ≡ before → IsHeavier b (columns_field t) after → IsHeavier b (header_part t) before
+      columns_heavier : (before after : ℕ) → after + own_weight own ≡ before → IsHeavier b (columns_field t 7) after → IsHeavier b (header_part t) before
       columns_heavier before after taken heavy =
-          heavier b (header_part t) (own_weight own + (after + 1)) before (least_header (after + 1) (least_heavier b (columns_field t) after heavy)) (omega (arith, taken))
+          heavier b (header_part t) (own_weight own + (after + 1)) before (least_header (after + 1) (least_heavier b (columns_field t 7) after heavy)) (omega (arith, taken))
 
       -- what is left behind both
-      pub header_paid : (before between after : ℕ) → between + own_weight own ≡ before → IsPaid b (columns_field t) between after → IsPaid b (header_part t) before after
+      pub header_paid : (before between after : ℕ) → between + own_weight own ≡ before → IsPaid b (columns_field t 7) between after → IsPaid b (header_part t) before after
       header_paid before between after taken paid = record {
         amount = own_weight own + paid.amount;
         weighs = weigh_header paid.amount paid.weighs;
@@ -160,10 +160,10 @@ module _ (b : List ℕ) (t : ℕ) where
 
       -- a refusal behind the own fields
       pub columns_refused : (base at' at before between after : ℕ) (e : Broken) → at' ≡ at → between + own_weight own ≡ before
-          → (Names base (Breaks b (columns_field t)) e ⊎ IsOverspent b (columns_field t) between at' e) × (after ≤ between)
+          → (Names base (Breaks b (columns_field t 7)) e ⊎ IsOverspent b (columns_field t 7) between at' e) × (after ≤ between)
           → (Names base (Breaks b (header_part t)) e ⊎ IsOverspent b (header_part t) before at e) × (after ≤ before)
       columns_refused base at' at before between after e same taken (inl named, less) =
-          (inl (names-weaker base (Breaks b (columns_field t)) (Breaks b (header_part t)) e (columns_broken b t sound) named), omega (arith, taken, less))
+          (inl (names-weaker base (Breaks b (columns_field t 7)) (Breaks b (header_part t)) e (columns_broken b t sound) named), omega (arith, taken, less))
       columns_refused base at' at before between after e same taken (inr over, less) = (
         inr (record {
           heavier = columns_heavier before between taken over.heavier;

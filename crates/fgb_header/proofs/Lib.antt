@@ -5,3 +5,4 @@ mod HeaderGroups
 mod HeaderLinks
 mod HeaderWeights
 pub mod RootTables
+pub mod ColumnTypes

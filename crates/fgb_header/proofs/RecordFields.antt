@@ -86,6 +86,9 @@ same_column b t name kind title description width precision scale nullable uniqu
 too_great : (n : ℕ) → 14 < n → nat_le n 14 ≡ false
 too_great n above = grind (arith, nat_tests)
 
+pub known_within : (kind n : ℕ) → kind ≡ n → nat_le n 14 ≡ true → kind ≤ 14
+known_within kind n same known = grind (arith, nat_tests)
+
 module _ (b : List ℕ) (t : ℕ) where
   -- what the fields of a table at t break
   abbrev pub TextClean : ℕ → Type 0
@@ -134,6 +137,18 @@ module _ (b : List ℕ) (t : ℕ) where
       read_within b t 0 (Some name) (ap (λ s. Some s) there ∙ sym (text_in-present b t 0 (name_present clean sound)), λ q r broken. clean q r (inl broken))
 
   module _ (sound : is_table b t ≡ true) where
+    -- a type that is not refused is known
+    pub kind_known : IsClean BreaksKind → nat_le (number_in 1 b t 1 0) 14 ≡ true
+    kind_known clean = elim (cases_Bool (nat_le (number_in 1 b t 1 0) 14)) [
+      | inl known ↦ known
+      | inr above ↦ absurd (clean t ColumnType (inr (record {
+        known = rw (sound, readable b 1 t 1 (λ q r broken. clean q r (inl broken))) refl;
+        other = above;
+        place = refl;
+        rule = refl;
+      })))
+    ]
+
     pub name_missing : None ≡ text_in b t 0 → Forbids Required (is_table b t) (not (is_absent b t 0)) t t Required
     name_missing missing = record {
       known = sound;

@@ -6,9 +6,8 @@ use Rattle.flat_layout.specs.Layout.{is_table, is_absent, led_to, number_in, lon
 use Rattle.flat_layout.specs.Promises.{BreaksField, BreaksText, BreaksTo, BreaksVector}
 use Rattle.flat_views.specs.declared.vectors.VecView.{VecView}
 use Rattle.flat_views.specs.Vectors.{vector_width}
-use Rattle.fgb_schema.specs.Tables.{column, crs, table, tables, link, is_readable}
+use Rattle.fgb_schema.specs.Tables.{crs, table, link, is_readable}
 use Rattle.fgb_schema.specs.Paths.{Part, field, Forbids, Breaks}
-use Rattle.fgb_schema.specs.Headers.{Column, columns_at}
 
 -- the texts: name, title, description, metadata
 pub data BreaksTexts (b : List ℕ) (t q : ℕ) (r : Rule) : Type 0 where
@@ -34,12 +33,9 @@ pub data BreaksNodeSize (b : List ℕ) (t q : ℕ) (r : Rule) : Type 0 where
   in_node_size : BreaksField 2 b t 9 q r → BreaksNodeSize b t q r
   other_node_size : Forbids NodeSize (is_table b t && is_readable 2 b t 9) (not (number_in 2 b t 9 16 == 1)) t q r → BreaksNodeSize b t q r
 
--- the field of the coordinate reference system, and that of the columns
+-- the field of the coordinate reference system
 abbrev pub crs_field : ℕ → Part
 crs_field t = field (link (table crs)) t 10
-
-abbrev pub columns_field : ℕ → Part
-columns_field t = field (link (tables column)) t 7
 
 -- all but the columns
 pub data BreaksOwn (b : List ℕ) (t q : ℕ) (r : Rule) : Type 0 where
@@ -51,12 +47,9 @@ pub data BreaksOwn (b : List ℕ) (t q : ℕ) (r : Rule) : Type 0 where
   by_node_size : BreaksNodeSize b t q r → BreaksOwn b t q r
   by_crs : Breaks b (crs_field t) q r → BreaksOwn b t q r
 
--- the numbers of the envelope, and the columns
+-- the numbers of the envelope
 abbrev pub envelope_in : List ℕ → ℕ → List ℕ
 envelope_in b t = if is_absent b t 1 then [] else longs b (led_to b t 1)
-
-abbrev pub columns_in : List ℕ → ℕ → List Column
-columns_in b t = if is_absent b t 7 then [] else columns_at b (led_to b t 7)
 
 -- the bytes of each number of an envelope, 8 where there is none
 abbrev pub number_width : Option VecView → ℕ

@@ -193,7 +193,7 @@ fn required_name<'a>(table: Table<'a>) -> Result<&'a str, Broken>
 }
 
 /// The type of the column in a table. Refuses Field, and at the table ColumnType where it is above 14.
-fn known_kind(table: Table) -> Result<u8, Broken>
+pub(crate) fn known_kind(table: Table) -> Result<u8, Broken>
     ensures { let b = bytes_of table.entry in let t = place_of table.entry in
         Judges (base_of table.entry)
         (λ q r. BreaksField 1 b t 1 q r

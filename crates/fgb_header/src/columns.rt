@@ -1,15 +1,16 @@
-ghost use Rattle.std.specs.Prelude.{◌≡◌, ◌<◌, [], length, slice_get, IsOkAnd, MatchOption, ⊤};
+ghost use Rattle.std.specs.Prelude.{◌≡◌, ◌<◌, [], ◌≤◌, Some, length, slice_get, IsOkAnd, MatchOption, ⊤};
 ghost use Rattle.std.specs.Option.{ForSome};
 ghost use Rattle.flat_layout.specs.Layout.{count, entry_place};
 ghost use Rattle.flat_layout.specs.Promises.{IsClean};
 ghost use Rattle.flat_views.specs.Meters.{left_of, meter_place};
 ghost use Rattle.flat_views.specs.TableVecs.{tables_base, tables_bytes, tables_place};
+ghost use Rattle.flat_views.specs.Tables.{base_of, bytes_of, place_of};
 ghost use Rattle.fgb_schema.specs.Tables.{column as column_name, table as table_thing};
-ghost use Rattle.fgb_schema.specs.Paths.{Breaks, columns_part, offset};
+ghost use Rattle.fgb_schema.specs.Paths.{Breaks, columns_part, offset, columns_field};
 ghost use Rattle.fgb_schema.specs.Weights.{Goes};
 
-use crate::column::ColumnView;
-use flat_views::{Broken, Meter, Rule, TableVec};
+use crate::column::{ColumnView, known_kind};
+use flat_views::{Broken, Meter, Rule, Table, TableVec};
 
 /// The most columns that a list has.
 const MAX_COLUMNS: usize = 65536;
@@ -24,7 +25,7 @@ pub struct Columns<'a> {
 
 impl<'a> Columns<'a> {
     ghost use Rattle.flat_layout.specs.Layout.{target};
-    ghost use Rattle.fgb_schema.specs.Headers.{column_at, columns_at};
+    ghost use Rattle.fgb_schema.specs.Headers.{column_at, columns_at, columns_in, types};
     ghost use Rattle.fgb_header.specs.Views.{column_shown, columns_shown};
 
     /// The columns of a list, under a meter, which then has less by exactly what the list and what is below
@@ -42,6 +43,17 @@ impl<'a> Columns<'a> {
         };
         read_all(tables, meter)?;
         Ok(Columns { list: Some(tables) })
+    }
+
+    /// The columns of the list in a field of a table, as `read` does. Refuses Field, Offset or Vector besides.
+    pub fn in_field(table: Table<'a>, field: u16, meter: &mut Meter) -> Result<Columns<'a>, Broken>
+        ensures goes { let b = bytes_of table.entry in let t = place_of table.entry in
+            Goes (base_of table.entry) b (columns_field t field) (meter_place meter.old) (left_of meter.old) (left_of meter.new)
+            (λ columns. columns_shown columns ≡ columns_in b t field) result }
+        ensures place { meter_place meter.new ≡ meter_place meter.old }
+    {
+        let list = table.tables(field)?;
+        Columns::read(list, meter)
     }
 
     /// How many columns there are.
@@ -62,6 +74,35 @@ impl<'a> Columns<'a> {
         match self.list {
             Some(tables) => Columns::sound_column(tables, i),
             None => unreachable!(),
+        }
+    }
+
+    /// The type of the i-th column, read without the rest of it.
+    pub fn kind(self, i: usize) -> u8
+        requires { i < length (columns_shown self) }
+        ensures value { slice_get (types (columns_shown self.entry)) i ≡ Some result }
+        ensures known { result ≤ 14 }
+    {
+        match self.list {
+            Some(tables) => Columns::sound_kind(tables, i),
+            None => unreachable!(),
+        }
+    }
+
+    /// The type of the column of the i-th entry of a list that breaks no rule.
+    fn sound_kind(tables: TableVec<'a>, i: usize) -> u8
+        requires early { i < count (tables_bytes tables) (tables_place tables) }
+        requires clean { IsClean (Breaks (tables_bytes tables) (columns_part (tables_place tables))) }
+        ensures value { let b = tables_bytes tables.entry in
+            result ≡ (column_at b (target b (entry_place b (tables_place tables.entry) i))).kind }
+        ensures known { result ≤ 14 }
+    {
+        let Ok(table) = tables.get(i) else {
+            unreachable!()
+        };
+        match known_kind(table) {
+            Ok(kind) => kind,
+            Err(_) => unreachable!(),
         }
     }
 

@@ -7,7 +7,7 @@ ghost use Rattle.flat_views.specs.Vectors.{longs_shown};
 ghost use Rattle.fgb_schema.specs.Paths.{Breaks, header_part, header_root};
 ghost use Rattle.fgb_schema.specs.Headers.{crs_at, header_at, header_of};
 ghost use Rattle.fgb_schema.specs.Weights.{BreaksBuffer, Goes, text_weight};
-ghost use Rattle.fgb_header.specs.Groups.{BreaksFlags, BreaksKind, BreaksNodeSize, BreaksOwn, BreaksTexts, columns_field, columns_in, crs_field, number_width};
+ghost use Rattle.fgb_header.specs.Groups.{BreaksFlags, BreaksKind, BreaksNodeSize, BreaksOwn, BreaksTexts, crs_field, number_width};
 
 use crate::column::{flag, refused};
 use crate::columns::Columns;
@@ -247,18 +247,8 @@ impl<'a> HeaderView<'a> {
     {
         let own = Own::read(table)?;
         meter.spend(own.weight())?;
-        let columns = HeaderView::columns_of(table, meter)?;
+        let columns = Columns::in_field(table, COLUMNS, meter)?;
         Ok(HeaderView { own, columns })
-    }
-
-    /// The columns of the header in a table, under a meter.
-    fn columns_of(table: Table<'a>, meter: &mut Meter) -> Result<Columns<'a>, Broken>
-        ensures { let b = bytes_of table.entry in let t = place_of table.entry in
-            Goes (base_of table.entry) b (columns_field t) (meter_place meter.old) (left_of meter.old) (left_of meter.new)
-            (λ columns. columns_shown columns ≡ columns_in b t) result }
-    {
-        let list = table.tables(COLUMNS)?;
-        Columns::read(list, meter)
     }
 
     /// The name of the data.

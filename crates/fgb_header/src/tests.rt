@@ -107,6 +107,8 @@ fn every_field(rt: HostRuntime) -> Result<(), Fail> {
 fn every_column_field(rt: HostRuntime) -> Result<(), Fail> {
     let columns = HeaderView::read(&FULL, 12)?.columns();
     assert_eq!(rt; columns.len(), 2);
+    assert_eq!(rt; columns.kind(0), 0);
+    assert_eq!(rt; columns.kind(1), 11);
     let id = columns.get(0);
     assert_eq!(rt; id.name(), "id");
     assert_eq!(rt; id.kind(), 0);

@@ -6,7 +6,7 @@ use Rattle.std.specs.List.{range_with_len}
 use Rattle.std.proofs.lemmas.Option.{slice_get-get_or}
 use Rattle.std.proofs.lemmas.List.FromFn.{get_or-map-range_with_len, length-map-range_with_len}
 use Rattle.flat_layout.specs.declared.Broken.{Broken}
-use Rattle.flat_layout.specs.Layout.{is_table, is_vector, count, entry_place, target}
+use Rattle.flat_layout.specs.Layout.{is_offset, is_table, is_vector, count, entry_place, target}
 use Rattle.flat_layout.specs.Promises.{IsClean, Names, BreaksTable, BreaksThrough}
 use Rattle.flat_layout.proofs.Judging.{through-clean_offset, through-clean, table-clean}
 use Rattle.fgb_schema.specs.Tables.{Name, table, tables}
@@ -28,9 +28,12 @@ module _ (b : List ℕ) (name : Name) (v : ℕ) (room : is_vector 4 b v ≡ true
   pub entry_named : (base : ℕ) (e : Broken) → Names base (BreaksThrough BreaksTable b place) e → ⊥
   entry_named base e named = through_clean named.0 e.rule named.2
 
+  pub entry_offset : is_offset b place ≡ true
+  entry_offset = through-clean_offset BreaksTable b place through_clean
+
   -- the table there
   pub entry_target : IsClean (Breaks b (thing (table name) (target b place)))
-  entry_target q r broken = entry_clean q r (from_offset b (table name) place q r (through-clean_offset BreaksTable b place through_clean) broken)
+  entry_target q r broken = entry_clean q r (from_offset b (table name) place q r entry_offset broken)
 
   pub entry_table : is_table b (target b place) ≡ true
   entry_table = table-clean b (target b place) (through-clean BreaksTable b place through_clean)

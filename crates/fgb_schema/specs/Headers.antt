@@ -1,6 +1,6 @@
 -- The record that a header's buffer shows: each field is its default where it is absent, and else the number, the text
 -- or the list that stands at its place. A byte of a bool is true where it is not 0 (FlatGeobuf, header.fbs).
-use Rattle.std.specs.Prelude.{ℕ, ℤ, negsuc, pos, ◌==◌, ◌&&◌, not, nat_lt, Bool, List, [], map, if◌then◌else◌, Option}
+use Rattle.std.specs.Prelude.{ℕ, ℤ, negsuc, pos, ◌==◌, ◌&&◌, not, nat_lt, Bool, List, [], ◌∷◌, map, if◌then◌else◌, Option}
 use Rattle.std.specs.Option.{option_map}
 use Rattle.std.specs.List.{range_with_len}
 use Rattle.flat_layout.specs.Layout.{target, is_absent, led_to, number_in, signed_in, text, text_in, place_in, longs, count, entry_place}
@@ -41,6 +41,10 @@ column_at b t = record {
 -- the columns of the vector of tables at v
 unfoldable pub columns_at : List ℕ → ℕ → List Column
 columns_at b v = map (λ i. column_at b (target b (entry_place b v i))) (range_with_len 0 (count b v))
+
+-- the columns in field f, none where it is absent
+abbrev pub columns_in : List ℕ → ℕ → ℕ → List Column
+columns_in b t f = if is_absent b t f then [] else columns_at b (led_to b t f)
 
 -- the coordinate reference system
 pub record Crs : Type 0 where
@@ -86,7 +90,7 @@ header_at b t = record {
   has_m = flag_in b t 4 0;
   has_t = flag_in b t 5 0;
   has_tm = flag_in b t 6 0;
-  columns = if is_absent b t 7 then [] else columns_at b (led_to b t 7);
+  columns = columns_in b t 7;
   features_count = number_in 8 b t 8 0;
   node_size = number_in 2 b t 9 16;
   crs = option_map (crs_at b) (place_in b t 10);
@@ -94,6 +98,15 @@ header_at b t = record {
   description = text_in b t 12;
   metadata = text_in b t 13;
 }
+
+-- their types
+abbrev pub types : List Column → List ℕ
+types columns = map (λ (c : Column). c.kind) columns
+
+-- of two lists of columns, or of their types, the one that holds: a feature's own where it has some, else the header's
+abbrev pub holding : {A : Type 0} → List A → List A → List A
+holding [] outer = outer
+holding (first ∷ rest) outer = first ∷ rest
 
 -- the header that a buffer shows
 abbrev pub header_of : List ℕ → Header

@@ -1,6 +1,7 @@
 pub mod Tables
+pub mod Headers
+pub mod Properties
 pub mod Paths
 pub mod Weights
-pub mod Headers
 pub mod Features
 pub mod Shapes

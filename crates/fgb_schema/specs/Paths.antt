@@ -1,12 +1,14 @@
 -- Paths through a buffer, from its root along the fields that are read, and what is broken along them (FlatBuffers
 -- internals, "Format components"). A step through a broken offset, table, field or vector leads nowhere.
 use Rattle.std.specs.Prelude.{◌≡◌, ◌⊎◌, ◌==◌, ◌&&◌, not, ◌≢◌, ◌||◌, ℕ, ◌+◌, ◌-◌, ◌*◌, ◌/◌, ◌%◌, ◌<◌, ◌≤◌, nat_le, length, List, [], ◌∷◌, map, slice_index, Bool, true, false, IsTrue, if◌then◌else◌}
-use Rattle.std.specs.List.{range_with_len}
-use Rattle.flat_layout.specs.Layout.{target, words, longs, is_offset, is_table, is_absent, is_field, field_place, is_vector, count, number_in, led_to, entry_place}
+use Rattle.std.specs.List.{range_with_len, list_all}
+use Rattle.flat_layout.specs.Layout.{target, words, longs, is_offset, is_table, is_absent, is_field, field_place, is_vector, count, number_in, led_to, entry_place, elements}
 use Rattle.flat_layout.specs.Promises.{BreaksOffset, BreaksTable, BreaksField, BreaksVector, BreaksText}
 use Rattle.flat_layout.specs.declared.Rule.{Rule}
 use Rattle.flat_layout.specs.declared.Rule.TheVariants.{Required, Kind, NodeSize, ColumnType, ColumnCount, Depth, PairCount, PointCount, Ends, Ordinates, NotFinite}
 use Rattle.order_keys.specs.Keys.{is_finite}
+use Rattle.fgb_schema.specs.Headers.{Header, types, holding, columns_in}
+use Rattle.fgb_schema.specs.Properties.{BreaksProperties}
 use Rattle.fgb_schema.specs.Tables.{Name, header, column, crs, feature, geometry, Thing, table, tables, string, numbers, pairs, Content, scalar, link, fields, is_readable, type_of, is_typed, kind_of, is_kind, has_points, has_rings}
 
 -- a part of a buffer that can be broken: an offset at a place and what it is to lead to, a thing at a place, or a
@@ -113,8 +115,27 @@ pub data BreaksGeometry (outer depth : ℕ) (b : List ℕ) (t : ℕ) : ℕ → R
   ends : {q : ℕ} {r : Rule} → is_table b t ≡ true → has_rings (kind_of outer b t) ≡ true → is_absent b t 0 ≡ false → BreaksEnds b t q r → BreaksGeometry outer depth b t q r
   ordinates : {q : ℕ} {r : Rule} (f : ℕ) → is_table b t ≡ true → has_points (kind_of outer b t) ≡ true → 2 ≤ f → f ≤ 5 → BreaksOrdinates b t f q r → BreaksGeometry outer depth b t q r
 
+-- the offset at p leads to a column whose type can be read, and is one
+abbrev pub has_type : List ℕ → ℕ → Bool
+has_type b p = is_offset b p && is_table b (target b p) && is_readable 1 b (target b p) 1 && nat_le (number_in 1 b (target b p) 1 0) 14
+
+-- the types of the columns in field f are known: there is no list, or it is sound and each of its columns has a type
+abbrev pub are_typed : List ℕ → ℕ → ℕ → Bool
+are_typed b t f = is_absent b t f || (is_listed 4 b t f && list_all (λ i. has_type b (entry_place b (led_to b t f) i)) (range_with_len 0 (count b (led_to b t f))))
+
+-- a rule is broken by the properties of the feature at t, under a header whose columns have these types, where it is
+-- known which columns hold
+pub record BreaksFeatureProperties (kinds : List ℕ) (b : List ℕ) (t q : ℕ) (r : Rule) : Type 0 where
+  pub sound : is_table b t ≡ true
+  pub present : is_absent b t 1 ≡ false
+  pub listed : is_listed 1 b t 1 ≡ true
+  pub typed : are_typed b t 2 ≡ true
+  pub at : ℕ
+  pub broken : BreaksProperties (holding (types (columns_in b t 2)) kinds) (elements 1 b (led_to b t 1)) at r
+  pub place : q ≡ led_to b t 1 + 4 + at
+
 -- a rule beyond the layout that a table at t breaks by itself: a header's type is above 7 or its node size is 1, a
--- column has no name or a type above 14, or what a geometry breaks
+-- column has no name or a type above 14, or what the properties of a feature or what a geometry breaks
 unfoldable pub BreaksByTable : Name → List ℕ → ℕ → ℕ → Rule → Type 0
 BreaksByTable header b t q r =
     Forbids Kind (is_table b t && is_readable 1 b t 2) (nat_le (number_in 1 b t 2 0) 7) t q r
@@ -123,7 +144,7 @@ BreaksByTable column b t q r =
     Forbids Required (is_table b t) (not (is_absent b t 0)) t q r
     ⊎ Forbids ColumnType (is_table b t && is_readable 1 b t 1) (nat_le (number_in 1 b t 1 0) 14) t q r
 BreaksByTable crs b t q r = ⊥
-BreaksByTable (feature outer) b t q r = ⊥
+BreaksByTable (feature outer kinds) b t q r = BreaksFeatureProperties kinds b t q r
 BreaksByTable (geometry outer depth) b t q r = BreaksGeometry outer depth b t q r
 
 -- whether so many tables of one name may stand in a vector: there are at most 65,536 columns
@@ -148,12 +169,12 @@ pub record Breaks (b : List ℕ) (from : Part) (q : ℕ) (r : Rule) : Type 0 whe
   pub path : Leads b from part
   pub broken : BreaksLayout b part q r ⊎ BreaksMore b part q r
 
--- the root of a header's buffer, and of a feature's under a header of this geometry type
+-- the root of a header's buffer, and of a feature's under a header
 abbrev pub header_root : Part
 header_root = offset (table header) 0
 
-abbrev pub feature_root : ℕ → Part
-feature_root outer = offset (table (feature outer)) 0
+abbrev pub feature_root : Header → Part
+feature_root h = offset (table (feature h.geometry_type (types h.columns))) 0
 
 -- the table at t by its name: a header, a column, a coordinate reference system
 abbrev pub header_part : ℕ → Part
@@ -169,10 +190,21 @@ crs_part t = thing (table crs) t
 abbrev pub columns_part : ℕ → Part
 columns_part v = thing (tables column) v
 
--- a feature's table under a header of this geometry type
-abbrev pub feature_part : ℕ → ℕ → Part
-feature_part outer t = thing (table (feature outer)) t
+-- a feature's table under a header
+abbrev pub feature_part : Header → ℕ → Part
+feature_part h t = thing (table (feature h.geometry_type (types h.columns))) t
 
 -- the table of a geometry to which this type is given from outside, at this depth
 abbrev pub geometry_part : ℕ → ℕ → ℕ → Part
 geometry_part outer depth g = thing (table (geometry outer depth)) g
+
+-- the fields of a table at t that lead on: the geometry of a feature under a header of this geometry type, the
+-- properties of a feature, and a field of columns
+abbrev pub geometry_field : ℕ → ℕ → Part
+geometry_field outer t = field (link (table (geometry outer 1))) t 0
+
+abbrev pub properties_field : ℕ → Part
+properties_field t = field (link (numbers 1)) t 1
+
+abbrev pub columns_field : ℕ → ℕ → Part
+columns_field t f = field (link (tables column)) t f

@@ -3,13 +3,13 @@ use Rattle.std.specs.Prelude.{ℕ, ◌+◌, ◌==◌, nat_le, ◌&&◌, ◌||◌
 use Rattle.flat_layout.specs.Layout.{is_absent, is_field, number_in}
 
 -- a table by its name: a header, a column, a coordinate reference system; a feature under a header of this geometry
--- type; a geometry to which this type is given from outside, 0 where its own field decides, and which stands at this
--- depth, the first at 1
+-- type, whose columns have these types; a geometry to which this type is given from outside, 0 where its own field
+-- decides, and which stands at this depth, the first at 1
 pub data Name : Type 0 where
   header : Name
   column : Name
   crs : Name
-  feature : ℕ → Name
+  feature : ℕ → List ℕ → Name
   geometry : ℕ → ℕ → Name
 
 -- what an offset leads to: a table, a vector of tables, a string, a vector of numbers of so many bytes each, or the
@@ -99,11 +99,15 @@ abbrev pub crs_fields : List (ℕ × Content)
 crs_fields =
     (0, link string) ∷ (1, scalar 4) ∷ (2, link string) ∷ (3, link string) ∷ (4, link string) ∷ (5, link string) ∷ []
 
+-- geometry, properties, columns
+abbrev pub feature_fields : ℕ → List (ℕ × Content)
+feature_fields outer = (0, link (table (geometry outer 1))) ∷ (1, link (numbers 1)) ∷ (2, link (tables column)) ∷ []
+
 -- the fields that are read of a table at t: their numbers in the schema, and what each holds
 unfoldable pub fields : Name → List ℕ → ℕ → List (ℕ × Content)
 fields header b t = header_fields
 fields column b t = column_fields
 fields crs b t = crs_fields
-fields (feature outer) b t = (0, link (table (geometry outer 1))) ∷ []
+fields (feature outer kinds) b t = feature_fields outer
 fields (geometry outer depth) b t =
     own_type outer ++ ring_fields (kind_of outer b t) ++ point_fields (kind_of outer b t) ++ part_fields depth (kind_of outer b t)

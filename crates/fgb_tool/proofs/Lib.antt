@@ -1,7 +1,9 @@
-mod Fetching
-mod Going
-mod Stepping
+mod Exits
 mod Telling
-mod Starting
+mod Standing
+mod Going
+mod Searching
 mod Querying
+mod Checking
+mod Statuses
 mod Running

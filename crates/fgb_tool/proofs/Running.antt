@@ -1,140 +1,126 @@
--- What a run promises, by the status that it ends with, from what its query has left.
-use Rattle.std.proofs.Common.{◌≡◌, ◌≢◌, inl, inr, ℕ, List, [], ◌++◌, length, Result, Ok, Err, IsErrOf, refl, subst, arith}
+-- What a run promises, from what its query or its check has left.
+use Rattle.std.proofs.Common.{◌≡◌, ◌≢◌, inl, inr, ⊎_elim, ℕ, List, ◌++◌, length, Result, Ok, Err, IsErrOf, refl, sym, subst}
 use Rattle.std.specs.Prelude.{OnOk, OnErr}
 use Rattle.std.specs.List.{range_with_len}
-use Rattle.std.proofs.lemmas.List.{append-nil}
 use Rattle.order_keys.specs.declared.bounds.Bounds.{Bounds}
 use Rattle.fgb_outside.specs.Source.{Source, IfTold, Rose}
 use Rattle.fgb_outside.specs.Sink.{Sink, AppendsPart}
 use Rattle.fgb_outside.proofs.Shown.{appends_part, part_longer}
-use Rattle.fgb_outside.proofs.Asking.{reads_front, front_along}
-use Rattle.fgb_file.specs.File.{outer_type, IsFile}
+use Rattle.fgb_file.specs.File.{header_in, IsFile, BreaksFirst, IsValid}
 use Rattle.fgb_file.specs.Found.{answer}
-use Rattle.fgb_file.proofs.Walk.{walk_of_file, file_front}
+use Rattle.fgb_file.proofs.Passing.{file_passes, passes_front, file_sound, first_invalid}
 use Rattle.fgb_file.proofs.Entries.{answer_behind, answer-append}
+use Rattle.fgb_reader.specs.Requests.{AsksAll, AsksFront}
+use Rattle.fgb_reader.proofs.Whole.{whole_front}
 use Rattle.fgb_tool.specs.declared.stop.Stop.{Stop}
-use Rattle.fgb_tool.specs.declared.stop.Stop.TheVariants.{Refused, SourceFailed, SinkFailed, Memory}
+use Rattle.fgb_tool.specs.declared.stop.Stop.TheVariants.{SourceFailed, SinkFailed}
 use Rattle.fgb_tool.specs.Causes.{IfRefused}
-use Rattle.fgb_tool.specs.Runs.{Answers, Passes, none, some, AnswersPart, Refuses, AsksAll, AsksFront, IsStatus, Runs}
+use Rattle.fgb_tool.specs.Texts.{accepted_text}
+use Rattle.fgb_tool.specs.Words.{Request, query, check}
+use Rattle.fgb_tool.specs.Runs.{Answers, ArePassed, none, some, AnswersPart, Refuses, IsStatus, Runs, Accepts, Checks, Does}
+use Rattle.fgb_tool.proofs.Statuses.{statuses, not_usage, at_done, at_refused, at_source, at_sink, at_memory, unfailed}
+
+-- whichever way a result went
+either : {T E : Type 0} (r : Result T E) (A B Q : Type 0) → (A → Q) → (B → Q) → OnOk r A → OnErr r B → Q
+either (Ok x) A B Q f g a b = f a
+either (Err e) A B Q f g a b = g b
+
+-- a front of a file was asked for where all of it was
+front_of : {T E : Type 0} (r : Result T E) (s s' : Source) → OnOk r (IfTold s (λ image. AsksAll image s s')) → OnErr r (IfTold s (λ image. AsksFront image s s')) → IfTold s (λ image. AsksFront image s s')
+front_of r s s' = either r _ _ _ (λ asked image told. whole_front (range_with_len 0 (length image)) (asked image told).reads) (λ front. front)
+
+-- ## A query
 
 -- what a query leaves
-pub record Queried {T : Type 0} (query : Bounds) (s s' : Source) (o o' : Sink) (result : Result T Stop) : Type 0 where
-  pub done : OnOk result (IfTold s (λ image. Answers image query o o'))
-  pub part : OnErr result (IfTold s (λ image. AnswersPart image query o o'))
-  pub refused : IfRefused result (λ broken. IfTold s (λ image. Refuses image query o o' broken))
-  pub asked : OnOk result (AsksAll s s')
-  pub front : OnErr result (AsksFront s s')
+pub record Queried {T : Type 0} (box : Bounds) (s s' : Source) (o o' : Sink) (result : Result T Stop) : Type 0 where
+  pub done : OnOk result (IfTold s (λ image. Answers image box o o'))
+  pub part : OnErr result (IfTold s (λ image. AnswersPart image box o o'))
+  pub refused : IfRefused result (λ broken. IfTold s (λ image. Refuses image box o o' broken))
+  pub asked : OnOk result (IfTold s (λ image. AsksAll image s s'))
+  pub front : OnErr result (IfTold s (λ image. AsksFront image s s'))
   pub failed : IsErrOf result SourceFailed → Rose s.faults s'.faults
   pub sink_failed : IsErrOf result SinkFailed → Rose o.faults o'.faults
 
--- what was passed is a front of a file's features
-passed_front : (image : List ℕ) (fs : List (List ℕ)) {ws : List (List ℕ)} → IsFile image fs → Passes image ws → (rest : List (List ℕ)) × (fs ≡ ws ++ rest)
-passed_front image fs file none = (fs, refl)
-passed_front image fs file (some {pieces = ws} {at = at} unindexed walk each) = let front = file_front image fs ws at file walk in (front.0, front.1)
+module _ (image : List ℕ) (box : Bounds) (o o' : Sink) where
+  -- all lines of a file are a part of them
+  part_of_all : Answers image box o o' → AnswersPart image box o o'
+  part_of_all all = record { pieces = all.pieces; passed = some (file_passes image all.file); written = appends_part o o' (answer (header_in image) box all.pieces) all.written }
 
--- all lines of a file are a part of them
-part_of_all : (image : List ℕ) (query : Bounds) (o o' : Sink) → Answers image query o o' → AnswersPart image query o o'
-part_of_all image query o o' all = record {
-  pieces = all.pieces;
-  passes = some all.file.unindexed (walk_of_file image all.pieces all.file) all.file.each;
-  written = appends_part o o' (answer (outer_type image) query all.pieces) all.written;
-}
+  -- what was passed is a front of a file's features
+  passed_front : {fs ws : List (List ℕ)} → IsFile image fs → ArePassed image ws → (rest : List (List ℕ)) × (fs ≡ ws ++ rest)
+  passed_front {fs = fs} file none = (fs, refl)
+  passed_front file (some passes) = let front = passes_front image file passes in (front.0, front.1)
 
--- lines of what was passed are lines of the file's features
-part_of_file : (image : List ℕ) (query : Bounds) (o o' : Sink) → AnswersPart image query o o' → (fs : List (List ℕ)) → IsFile image fs → AppendsPart o o' (answer (outer_type image) query fs)
-part_of_file image query o o' part fs file =
-    let front = passed_front image fs file part.passes in
-    let outer = outer_type image in
-    let longer : AppendsPart o o' (answer outer query (part.pieces ++ front.0)) =
-    rw (answer-append outer query part.pieces front.0) (part_longer o o' (answer outer query part.pieces) (answer_behind outer query part.pieces front.0) part.written) in
-    rw front.1 longer
+  -- lines of what was passed are lines of the file's features
+  part_of_file : AnswersPart image box o o' → (fs : List (List ℕ)) → IsFile image fs → AppendsPart o o' (answer (header_in image) box fs)
+  part_of_file part fs file =
+      let front = passed_front file part.passed in
+      let longer = part_longer o o' (answer (header_in image) box part.pieces) (answer_behind (header_in image) box part.pieces front.0) part.written in
+      subst (λ ps. AppendsPart o o' (answer (header_in image) box ps)) (sym front.1)
+      (subst (AppendsPart o o') (sym (answer-append (header_in image) box part.pieces front.0)) longer)
 
-front_of_all : (s s' : Source) → AsksAll s s' → AsksFront s s'
-front_of_all s s' all image told = let places = range_with_len 0 (length image) in front_along (places ++ []) places (append-nil places) (reads_front [] (all image told))
+module _ {T : Type 0} (s s' : Source) (o o' e e' : Sink) (status : ℕ) (r : Result T Stop) (is : IsStatus r e e' status) where
+  runs : (box : Bounds) → Queried box s s' o o' r → Runs box s s' o o' e e' status
+  runs box q =
+      let part : IfTold s (λ image. AnswersPart image box o o') = either r _ _ _ (λ done image told. part_of_all image box o o' (done image told)) (λ part. part) q.done q.part in
+      record {
+        done = λ zero. (at_done e e' status r _ is q.done zero).0;
+        asked = λ zero. (at_done e e' status r _ is q.asked zero).0;
+        quiet = λ zero. (at_done e e' status r _ is q.asked zero).1;
+        refused = at_refused e e' status r _ is q.refused;
+        source_failed = λ three. let at = at_source e e' status r is three in (q.failed at.0, at.1);
+        sink_failed = λ four. let at = at_sink e e' status r is four in (q.sink_failed at.0, at.1);
+        memory = at_memory e e' status r is;
+        statuses = statuses e e' status r is;
+        front = front_of r s s' q.asked q.front;
+        part = part;
+        valid_part = λ image told. part_of_file image box o o' (part image told);
+        valid_done = λ image told valid source sink. ⊎_elim inl
+            (λ rest. ⊎_elim (λ one. absurd (first_invalid image ((at_refused e e' status r _ is q.refused one).2 image told).first valid)) inr rest)
+            (unfailed e e' status r is (λ failed. source (q.failed failed)) (λ failed. sink (q.sink_failed failed)));
+      }
 
-module _ {T : Type 0} (query : Bounds) (s s' : Source) (o o' e e' : Sink) (status : ℕ) where
-  pub runs : (result : Result T Stop) → Queried query s s' o o' result → IsStatus result e e' status → Runs query s s' o o' e e' status
-  runs (Ok done) q is = record {
-    done = λ _. q.done;
-    asked = λ _. q.asked;
-    quiet = λ _. is.1;
-    refused = λ other. absurd (omega (arith, is.0, other));
-    source_failed = λ other. absurd (omega (arith, is.0, other));
-    sink_failed = λ other. absurd (omega (arith, is.0, other));
-    memory = λ other. absurd (omega (arith, is.0, other));
-    statuses = inl is.0;
-    front = front_of_all s s' q.asked;
-    part = λ image told. part_of_all image query o o' (q.done image told);
-    valid_part = λ image told. part_of_file image query o o' (part_of_all image query o o' (q.done image told));
-    valid_done = λ image told valid source sink. inl is.0;
-  }
-  runs (Err (Refused broken)) q is = record {
-    done = λ other. absurd (omega (arith, is.0, other));
-    asked = λ other. absurd (omega (arith, is.0, other));
-    quiet = λ other. absurd (omega (arith, is.0, other));
-    refused = λ _. (broken, is.1, q.refused);
-    source_failed = λ other. absurd (omega (arith, is.0, other));
-    sink_failed = λ other. absurd (omega (arith, is.0, other));
-    memory = λ other. absurd (omega (arith, is.0, other));
-    statuses = inr (inl is.0);
-    front = q.front;
-    part = q.part;
-    valid_part = λ image told. part_of_file image query o o' (q.part image told);
-    valid_done = λ image told valid source sink. absurd (valid broken.place broken.rule (q.refused image told).breaks);
-  }
-  runs (Err SourceFailed) q is = record {
-    done = λ other. absurd (omega (arith, is.0, other));
-    asked = λ other. absurd (omega (arith, is.0, other));
-    quiet = λ other. absurd (omega (arith, is.0, other));
-    refused = λ other. absurd (omega (arith, is.0, other));
-    source_failed = λ _. (q.failed refl, is.1);
-    sink_failed = λ other. absurd (omega (arith, is.0, other));
-    memory = λ other. absurd (omega (arith, is.0, other));
-    statuses = inr (inr (inl is.0));
-    front = q.front;
-    part = q.part;
-    valid_part = λ image told. part_of_file image query o o' (q.part image told);
-    valid_done = λ image told valid source sink. absurd (source (q.failed refl));
-  }
-  runs (Err SinkFailed) q is = record {
-    done = λ other. absurd (omega (arith, is.0, other));
-    asked = λ other. absurd (omega (arith, is.0, other));
-    quiet = λ other. absurd (omega (arith, is.0, other));
-    refused = λ other. absurd (omega (arith, is.0, other));
-    source_failed = λ other. absurd (omega (arith, is.0, other));
-    sink_failed = λ _. (q.sink_failed refl, is.1);
-    memory = λ other. absurd (omega (arith, is.0, other));
-    statuses = inr (inr (inr (inl is.0)));
-    front = q.front;
-    part = q.part;
-    valid_part = λ image told. part_of_file image query o o' (q.part image told);
-    valid_done = λ image told valid source sink. absurd (sink (q.sink_failed refl));
-  }
-  runs (Err Memory) q is = record {
-    done = λ other. absurd (omega (arith, is.0, other));
-    asked = λ other. absurd (omega (arith, is.0, other));
-    quiet = λ other. absurd (omega (arith, is.0, other));
-    refused = λ other. absurd (omega (arith, is.0, other));
-    source_failed = λ other. absurd (omega (arith, is.0, other));
-    sink_failed = λ other. absurd (omega (arith, is.0, other));
-    memory = λ _. is.1;
-    statuses = inr (inr (inr (inr is.0)));
-    front = q.front;
-    part = q.part;
-    valid_part = λ image told. part_of_file image query o o' (q.part image told);
-    valid_done = λ image told valid source sink. inr is.0;
-  }
+  -- the promise at what the words ask for
+  pub does_query : (file : List ℕ) (box : Bounds) (request : Request) → Queried box s s' o o' r → query file box ≡ request → (status ≢ 2) × Does request s s' o o' e e' status
+  does_query file box request q same = (not_usage e e' status r is, subst (λ asked. Does asked s s' o o' e e' status) same (runs box q))
 
--- no result has the status of wrong words
-pub not_usage : {T : Type 0} (e e' : Sink) (status : ℕ) (result : Result T Stop) → IsStatus result e e' status → status ≢ 2
-not_usage e e' status (Ok done) is usage = omega (arith, is.0, usage)
-not_usage e e' status (Err (Refused broken)) is usage = omega (arith, is.0, usage)
-not_usage e e' status (Err SourceFailed) is usage = omega (arith, is.0, usage)
-not_usage e e' status (Err SinkFailed) is usage = omega (arith, is.0, usage)
-not_usage e e' status (Err Memory) is usage = omega (arith, is.0, usage)
+-- ## A check
 
--- the promise at the box that the words ask for
-pub runs_at : {T : Type 0} (read query : Bounds) (s s' : Source) (o o' e e' : Sink) (status : ℕ) (result : Result T Stop) → read ≡ query → Queried read s s' o o' result → IsStatus result e e' status
-    → (status ≢ 2) × Runs query s s' o o' e e' status
-runs_at read query s s' o o' e e' status result same q is =
-    (not_usage e e' status result is, subst (λ box. Runs box s s' o o' e e' status) same (runs read s s' o o' e e' status result q is))
+-- what a check leaves
+pub record Checked {T : Type 0} (s s' : Source) (o o' : Sink) (result : Result T Stop) : Type 0 where
+  pub done : OnOk result (IfTold s (λ image. Accepts image o o'))
+  pub refused : IfRefused result (λ broken. IfTold s (λ image. BreaksFirst image broken))
+  pub asked : OnOk result (IfTold s (λ image. AsksAll image s s'))
+  pub front : OnErr result (IfTold s (λ image. AsksFront image s s'))
+  pub failed : IsErrOf result SourceFailed → Rose s.faults s'.faults
+  pub sink_failed : IsErrOf result SinkFailed → Rose o.faults o'.faults
+  pub part : IfTold s (λ image. (pieces : List (List ℕ)) → IsFile image pieces → AppendsPart o o' (accepted_text (length pieces) 0))
+  pub broken : IfTold s (λ image. (IsValid image → ⊥) → o' ≡ o)
+  pub unwritten : IfRefused result (λ _. o' ≡ o)
+  pub unread : IsErrOf result SourceFailed → o' ≡ o
+
+module _ {T : Type 0} (s s' : Source) (o o' e e' : Sink) (status : ℕ) (r : Result T Stop) (is : IsStatus r e e' status) where
+  checks : Checked s s' o o' r → Checks s s' o o' e e' status
+  checks q =
+      let refused : IfTold s (λ image. status ≡ 1 → IsValid image → ⊥) = λ image told one valid. first_invalid image ((at_refused e e' status r _ is q.refused one).2 image told) valid in
+      let accepted : IfTold s (λ image. status ≡ 0 → (IsValid image → ⊥) → ⊥) = λ image told zero invalid. invalid (file_sound image ((at_done e e' status r _ is q.done zero).0 image told).file) in
+      record {
+        done = λ zero. (at_done e e' status r _ is q.done zero).0;
+        asked = λ zero. (at_done e e' status r _ is q.asked zero).0;
+        quiet = λ zero. (at_done e e' status r _ is q.asked zero).1;
+        refused = λ one. ((at_refused e e' status r _ is q.unwritten one).2, at_refused e e' status r _ is q.refused one);
+        source_failed = λ three. let at = at_source e e' status r is three in (q.unread at.0, (q.failed at.0, at.1));
+        sink_failed = λ four. let at = at_sink e e' status r is four in (q.sink_failed at.0, at.1);
+        memory = at_memory e e' status r is;
+        statuses = statuses e e' status r is;
+        front = front_of r s s' q.asked q.front;
+        valid_part = λ image told pieces file. (q.part image told pieces file, λ one. refused image told one (file_sound image file));
+        broken_none = λ image told invalid. (q.broken image told invalid, λ zero. accepted image told zero invalid);
+        valid_done = λ image told valid source sink. ⊎_elim inl (λ rest. ⊎_elim (λ one. absurd (refused image told one valid)) inr rest)
+            (unfailed e e' status r is (λ failed. source (q.failed failed)) (λ failed. sink (q.sink_failed failed)));
+        broken_done = λ image told invalid source sink. ⊎_elim (λ zero. absurd (accepted image told zero invalid)) (λ rest. rest)
+            (unfailed e e' status r is (λ failed. source (q.failed failed)) (λ failed. sink (q.sink_failed failed)));
+      }
+
+  pub does_check : (file : List ℕ) (request : Request) → Checked s s' o o' r → check file ≡ request → (status ≢ 2) × Does request s s' o o' e e' status
+  does_check file request q same = (not_usage e e' status r is, subst (λ asked. Does asked s s' o o' e e' status) same (checks q))

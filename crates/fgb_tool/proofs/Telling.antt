@@ -1,9 +1,9 @@
 -- A text that is written piece by piece.
-use Rattle.std.proofs.Common.{◌≡◌, inl, inr, ℕ, ◌≤◌, List, ◌++◌, Result, Ok, Err, IsErrAnd, refl, subst, arith}
+use Rattle.std.proofs.Common.{◌≡◌, inl, inr, ℕ, ◌≤◌, List, [], ◌++◌, Result, Ok, Err, IsErrAnd, refl, sym, subst, arith}
 use Rattle.fgb_outside.specs.Sink.{Sink, Appends, AppendsPart, Writes}
 use Rattle.fgb_outside.specs.declared.sinks.SinkError.{SinkError}
 use Rattle.fgb_outside.specs.declared.sinks.SinkError.TheVariants.{Failed, Memory}
-use Rattle.fgb_outside.proofs.Shown.{rose_since, appends_appends, appends_then_part, appends_part, part_longer}
+use Rattle.fgb_outside.proofs.Shown.{rose_since, appends_nothing, appends_appends, appends_then_part, appends_part, part_longer}
 use Rattle.fgb_tool.specs.Texts.{CountRose, Tells, Writing}
 
 -- these bytes were written, and no count has fallen
@@ -12,8 +12,9 @@ pub record Wrote (a b : Sink) (xs : List ℕ) : Type 0 where
   pub later : a.faults ≤ b.faults
   pub later_wants : a.wants ≤ b.wants
 
-pub wrote_first : {T : Type 0} (a b : Sink) (xs : List ℕ) (x : T) → Writes a b xs (Ok x) → Wrote a b xs
-wrote_first a b xs x w = record { appends = w.written; later = w.later; later_wants = w.later_wants }
+-- nothing so far
+pub wrote_nothing : (a : Sink) → Wrote a a []
+wrote_nothing a = record { appends = appends_nothing a; later = omega arith; later_wants = omega arith }
 
 pub wrote_next : {T : Type 0} (a b c : Sink) (xs ys piece : List ℕ) (x : T) → piece ≡ ys → Wrote a b xs → Writes b c piece (Ok x) → Wrote a c (xs ++ ys)
 wrote_next a b c xs ys piece x same so_far w = record {
@@ -30,26 +31,19 @@ rose_from : (a b c : Sink) → a.faults ≤ b.faults → a.wants ≤ b.wants →
 rose_from a b c later later_wants (inl r) = inl (rose_since a.faults b.faults c.faults later r)
 rose_from a b c later later_wants (inr r) = inr (rose_since a.wants b.wants c.wants later_wants r)
 
-pub failed_first : {T U F : Type 0} (a b : Sink) (xs : List ℕ) (e : SinkError) (r : Result U F) (P : F → Type 0) → IsErrAnd r P → Writes {T = T} a b xs (Err e) → Writing a b xs r
-failed_first a b xs e (Ok u) P is w = absurd is
-failed_first a b xs e (Err f) P is w = record { whole = tt; part = w.part; rose = rose a b xs e w; later = w.later; later_wants = w.later_wants }
-
-pub failed_next : {T U F : Type 0} (a b c : Sink) (xs ys piece : List ℕ) (e : SinkError) (r : Result U F) (P : F → Type 0) → piece ≡ ys → IsErrAnd r P → Wrote a b xs → Writes {T = T} b c piece (Err e) → Writing a c (xs ++ ys) r
-failed_next a b c xs ys piece e (Ok u) P same is so_far w = absurd is
-failed_next a b c xs ys piece e (Err f) P same is so_far w = record {
+-- a piece of a text failed, behind others that were written and in front of the rest
+pub failed_next : {T U F : Type 0} (a b c : Sink) (text xs ys rest piece : List ℕ) (e : SinkError) (r : Result U F) (P : F → Type 0) → text ≡ xs ++ ys ++ rest → piece ≡ ys → IsErrAnd r P → Wrote a b xs → Writes {T = T} b c piece (Err e) → Writing a c text r
+failed_next a b c text xs ys rest piece e (Ok u) P whole same is so_far w = absurd is
+failed_next a b c text xs ys rest piece e (Err f) P whole same is so_far w = record {
   whole = tt;
-  part = subst (λ zs. AppendsPart a c (xs ++ zs)) same (appends_then_part a b c xs piece so_far.appends w.part);
+  part = subst (AppendsPart a c) (sym whole) (part_longer a c (xs ++ ys) rest (subst (λ zs. AppendsPart a c (xs ++ zs)) same (appends_then_part a b c xs piece so_far.appends w.part)));
   rose = rose_from a b c so_far.later so_far.later_wants (rose b c piece e w);
   later = omega (arith, so_far.later, w.later);
   later_wants = omega (arith, so_far.later_wants, w.later_wants);
 }
 
-pub failed_longer : {U F : Type 0} (a c : Sink) (xs more : List ℕ) (r : Result U F) (P : F → Type 0) → IsErrAnd r P → Writing a c xs r → Writing a c (xs ++ more) r
-failed_longer a c xs more (Ok u) P is w = absurd is
-failed_longer a c xs more (Err f) P is w = record { whole = tt; part = part_longer a c xs more w.part; rose = w.rose; later = w.later; later_wants = w.later_wants }
-
-pub wrote_all : {U F : Type 0} (a b : Sink) (xs : List ℕ) (u : U) → Wrote a b xs → Writing {E = F} a b xs (Ok u)
-wrote_all a b xs u w = record { whole = w.appends; part = appends_part a b xs w.appends; rose = tt; later = w.later; later_wants = w.later_wants }
+pub wrote_all : {U F : Type 0} (a b : Sink) (text xs : List ℕ) (u : U) → text ≡ xs → Wrote a b xs → Writing {E = F} a b text (Ok u)
+wrote_all {F = F} a b text xs u whole w = subst (λ t. Writing {E = F} a b t (Ok u)) (sym whole) (record { whole = w.appends; part = appends_part a b xs w.appends; rose = tt; later = w.later; later_wants = w.later_wants })
 
 -- whatever came of it
 pub tells : {U F : Type 0} (a b : Sink) (xs : List ℕ) (r : Result U F) → Writing a b xs r → Tells a b xs

@@ -1,17 +1,25 @@
 -- Why the work stops.
 use Rattle.std.specs.Prelude.{◌≡◌, ⊤, Result, IfErr}
-use Rattle.fgb_outside.specs.declared.sources.SourceError.{SourceError}
-use Rattle.fgb_outside.specs.declared.sources.SourceError.TheVariants as source_error
+use Rattle.fgb_reader.specs.declared.stop.ReadStop.{ReadStop}
+use Rattle.fgb_reader.specs.declared.stop.ReadStop.TheVariants as read_stop
+use Rattle.fgb_check.specs.declared.verdict.CheckError.{CheckError}
+use Rattle.fgb_check.specs.declared.verdict.CheckError.TheVariants as check_error
 use Rattle.fgb_outside.specs.declared.sinks.SinkError.{SinkError}
 use Rattle.fgb_outside.specs.declared.sinks.SinkError.TheVariants as sink_error
 use Rattle.flat_layout.specs.declared.Broken.{Broken}
 use Rattle.fgb_tool.specs.declared.stop.Stop.{Stop}
 use Rattle.fgb_tool.specs.declared.stop.Stop.TheVariants.{Refused, SourceFailed, SinkFailed, Memory}
 
--- what an error of a source stops the work as
-abbrev pub IsSourceCause : SourceError → Stop → Type 0
-IsSourceCause source_error.Failed stop = stop ≡ SourceFailed
-IsSourceCause source_error.Memory stop = stop ≡ Memory
+-- what reading stops the work as
+abbrev pub IsReadCause : ReadStop → Stop → Type 0
+IsReadCause (read_stop.Refused broken) stop = stop ≡ Refused broken
+IsReadCause read_stop.SourceFailed stop = stop ≡ SourceFailed
+IsReadCause read_stop.Memory stop = stop ≡ Memory
+
+-- what an error of a check stops the work as
+abbrev pub IsCheckCause : CheckError → Stop → Type 0
+IsCheckCause check_error.SourceFailed stop = stop ≡ SourceFailed
+IsCheckCause check_error.Memory stop = stop ≡ Memory
 
 -- what an error of a sink stops the work as
 abbrev pub IsSinkCause : SinkError → Stop → Type 0

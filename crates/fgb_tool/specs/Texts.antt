@@ -9,6 +9,10 @@ use Rattle.flat_layout.specs.Rules.{name_of}
 unfoldable pub refusal_text : Broken → List ℕ
 refusal_text broken = codes "refused: " ++ name_of broken.rule ++ codes " at " ++ decimal broken.place ++ 10 ∷ []
 
+-- the line of a file that breaks no rule: how many features it has, and how many nodes its index has
+unfoldable pub accepted_text : ℕ → ℕ → List ℕ
+accepted_text features nodes = codes "accepted " ++ decimal features ++ codes " features " ++ decimal nodes ++ codes " nodes" ++ 10 ∷ []
+
 unfoldable pub usage_text : List ℕ
 usage_text = codes "usage: fgb COMMAND FILE --name=value\n"
 

@@ -1,15 +1,15 @@
 //! The calls that the program makes: [`run`] answers a command, and [`plan`] says what a command's words ask.
 //!
 //! `run` reads the words, goes through the file once, front to back, and writes a line of each feature whose
-//! own box meets the box of the query. Its contract speaks of the source's bytes and of what it was asked, of
-//! the bytes written, of the text of a refusal and of the status (`specs/Runs.antt`); the definitions that it
-//! cites are those of `fgb_file`.
+//! own box meets the box of a query, or says that the file breaks no rule. Its contract speaks of the source's
+//! bytes and of what it was asked, of the bytes written, of the text of a refusal and of the status
+//! (`specs/Runs.antt`); the definitions that it cites are those of `fgb_file`.
 #![tactic(auto)]
 
+mod check;
 mod command;
 mod page;
 mod query;
-mod start;
 mod stop;
 mod texts;
 mod top;

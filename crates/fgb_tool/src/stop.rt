@@ -1,9 +1,11 @@
 // Why the work stops before its end.
 ghost use Rattle.std.specs.Prelude.{◌≡◌, true, false, OnOk};
-ghost use Rattle.fgb_tool.specs.Causes.{AtRefusal, IfRefused, IsSourceCause, IsSinkCause};
+ghost use Rattle.fgb_tool.specs.Causes.{AtRefusal, IfRefused, IsCheckCause, IsReadCause, IsSinkCause};
 ghost use Rattle.fgb_tool.specs.declared.stop.Stop.TheVariants.{Memory, Refused};
 
-use fgb_outside::{SinkError, SourceError};
+use fgb_check::CheckError;
+use fgb_outside::SinkError;
+use fgb_reader::ReadStop;
 use flat_views::Broken;
 use std::alloc::AllocError;
 
@@ -50,13 +52,25 @@ impl From<Broken> for Stop {
     }
 }
 
-impl From<SourceError> for Stop {
-    ghost from_gives = { IsSourceCause };
+impl From<ReadStop> for Stop {
+    ghost from_gives = { IsReadCause };
 
-    fn from(error: SourceError) -> Self {
+    fn from(stop: ReadStop) -> Self {
+        match stop {
+            ReadStop::Refused(broken) => Stop::Refused(broken),
+            ReadStop::SourceFailed => Stop::SourceFailed,
+            ReadStop::Memory => Stop::Memory,
+        }
+    }
+}
+
+impl From<CheckError> for Stop {
+    ghost from_gives = { IsCheckCause };
+
+    fn from(error: CheckError) -> Self {
         match error {
-            SourceError::Failed => Stop::SourceFailed,
-            SourceError::Memory => Stop::Memory,
+            CheckError::SourceFailed => Stop::SourceFailed,
+            CheckError::Memory => Stop::Memory,
         }
     }
 }

@@ -36,6 +36,13 @@ const NARROW: [u8; 52] = [
     0, 0, 0, 0, 0, 0, 0, 0, 0, 0, 0, 4, 0, 0, 0, 0, 0, 28, 0, 0, 0, 1, 0, 1, 0,
 ];
 
+/// The start and the header of a file of type Point that says two features, and has no index.
+const COUNTED: [u8; 60] = [
+    102, 103, 98, 3, 102, 103, 98, 1, 48, 0, 0, 0, 32, 0, 0, 0, 24, 0, 15, 0, 0, 0, 0, 0, 14, 0, 0,
+    0, 0, 0, 0, 0, 0, 0, 0, 0, 4, 0, 12, 0, 0, 0, 0, 0, 28, 0, 0, 0, 2, 0, 0, 0, 0, 0, 0, 0, 0, 0,
+    1, 0,
+];
+
 /// The patterns of -0, 0, 1, 2, 5, 10 and 11.
 const NEG_ZERO: u64 = 0x8000_0000_0000_0000;
 
@@ -55,6 +62,8 @@ const ELEVEN: u64 = 0x4026_0000_0000_0000;
 const THREE: [(u64, u64); 3] = [(ONE, TWO), (TEN, TEN), (ELEVEN, FIVE)];
 
 const QUERY: [&str; 3] = ["query", "three.fgb", "--box=0,0,10,10"];
+
+const CHECK: [&str; 2] = ["check", "three.fgb"];
 
 /// The lines of the first two of the three points.
 const FIRST: &str = "0 0 84 3ff0000000000000 4000000000000000 3ff0000000000000 4000000000000000\n";
@@ -78,6 +87,13 @@ fn push_points(file: &mut Vec<u8>, points: &[(u64, u64)]) -> Result<(), AllocErr
 /// The file of type Point with these points.
 fn file_of(alloc: Global, points: &[(u64, u64)]) -> Result<Vec<u8>, AllocError> {
     let mut file = Vec::from_slice(alloc, &EMPTY)?;
+    push_points(&mut file, points)?;
+    Ok(file)
+}
+
+/// The file of type Point with these points whose header says that there are two.
+fn counted_file(alloc: Global, points: &[(u64, u64)]) -> Result<Vec<u8>, AllocError> {
+    let mut file = Vec::from_slice(alloc, &COUNTED)?;
     push_points(&mut file, points)?;
     Ok(file)
 }
@@ -220,22 +236,27 @@ fn other_words_are_refused(rt: HostRuntime) -> Result<(), Fail> {
     }
     is_usage(&rt, &["query", "three.fgb", "three.fgb"])?;
     is_usage(&rt, &["Query", "three.fgb", area])?;
-    is_usage(&rt, &["check", "three.fgb"])
+    is_usage(&rt, &["check"])?;
+    is_usage(&rt, &["check", "three.fgb", "three.fgb"])?;
+    is_usage(&rt, &["check", "three.fgb", "--box=0,0,1,1"])?;
+    is_usage(&rt, &["check", "-three.fgb"])
+}
+
+/// What words ask for that do this with the file of the three points.
+fn planned(command: Command) -> Option<Plan<'static>> {
+    Some(Plan {
+        command,
+        target: Target::File("three.fgb"),
+        port: 0,
+    })
 }
 
 #[test]
-fn a_query_is_planned(rt: HostRuntime) {
-    let target = Target::File("three.fgb");
-    let want = Plan {
-        command: Command::Query,
-        target,
-        port: 0,
-    };
-    assert_eq!(rt; plan(&QUERY), Some(want));
-    assert_eq!(rt;
-        plan(&["query", "--box=0,0,10,10", "three.fgb"]),
-        Some(want)
-    );
+fn commands_are_planned(rt: HostRuntime) {
+    let turned = ["query", "--box=0,0,10,10", "three.fgb"];
+    assert_eq!(rt; plan(&QUERY), planned(Command::Query));
+    assert_eq!(rt; plan(&turned), planned(Command::Query));
+    assert_eq!(rt; plan(&CHECK), planned(Command::Check));
 }
 
 /// The file of the three points with these bytes at these places.
@@ -249,17 +270,18 @@ fn changed(alloc: Global, changes: &[(usize, u8)]) -> Result<Vec<u8>, AllocError
     Ok(file)
 }
 
-/// Queries these bytes, and wants this refusal, with these lines before it. Gives how many positions were
-/// asked for.
+/// Runs these words over these bytes, and wants this refusal, with these lines before it. Gives how many positions
+/// were asked for.
 fn refuses<R: Abort + AllocGlobal>(
     rt: &R,
+    words: &[&str],
     image: &[u8],
     lines: &str,
     refusal: &str,
 ) -> Result<u64, Fail> {
     let alloc = rt.alloc();
     let mut file = MemorySource::new(alloc, image, &[])?;
-    let ran = run_over(alloc, &QUERY, &mut file, &[])?;
+    let ran = run_over(alloc, words, &mut file, &[])?;
     assert_eq!(rt; (ran.status, ran.out()?, ran.err()?), (1, lines, refusal));
     let Some(asked) = front_of(file.asked()) else {
         panic!(rt; "{refusal}");
@@ -277,7 +299,7 @@ fn breaks<R: Abort + AllocGlobal>(
 ) -> Result<(), Fail> {
     let file = changed(rt.alloc(), changes)?;
     let text = format!(in rt.alloc(); "refused: {refusal}\n")?;
-    refuses(rt, &file, "", &text)?;
+    refuses(rt, &QUERY, &file, "", &text)?;
     Ok(())
 }
 
@@ -290,11 +312,11 @@ fn a_broken_header_is_refused(rt: HostRuntime) -> Result<(), Fail> {
     breaks(&rt, &[(16, 11)], "Vtable at 28")?;
     breaks(&rt, &[(24, 5)], "Field at 24")?;
     breaks(&rt, &[(32, 8)], "Kind at 28")?;
-    let asked = refuses(&rt, &INDEXED, "", "refused: Indexed at 60\n")?;
+    let asked = refuses(&rt, &QUERY, &INDEXED, "", "refused: Indexed at 60\n")?;
     assert_eq!(rt; asked, 60);
-    let asked = refuses(&rt, &NARROW, "", "refused: NodeSize at 44\n")?;
+    let asked = refuses(&rt, &QUERY, &NARROW, "", "refused: NodeSize at 44\n")?;
     assert_eq!(rt; asked, 52);
-    let asked = refuses(&rt, &EMPTY[..5], "", "refused: Short at 5\n")?;
+    let asked = refuses(&rt, &QUERY, &EMPTY[..5], "", "refused: Short at 5\n")?;
     assert_eq!(rt; asked, 0);
     Ok(())
 }
@@ -323,7 +345,7 @@ fn a_broken_feature_is_refused(rt: HostRuntime) -> Result<(), Fail> {
     breaks(&rt, &[(122, 0xF0), (123, 0xFF)], "NotFinite at 116")?;
     breaks(&rt, &[(37, 1)], "FeaturePastEnd at 36")?;
     let last = changed(rt.alloc(), &[(212, 85)])?;
-    refuses(&rt, &last, BOTH, "refused: FeaturePastEnd at 212\n")?;
+    refuses(&rt, &QUERY, &last, BOTH, "refused: FeaturePastEnd at 212\n")?;
     Ok(())
 }
 
@@ -354,7 +376,7 @@ fn shared_parts(alloc: Global) -> Result<Vec<u8>, AllocError> {
 #[test]
 fn shared_parts_are_heavy(rt: HostRuntime) -> Result<(), Fail> {
     let file = shared_parts(rt.alloc())?;
-    refuses(&rt, &file, "", "refused: Weight at 40\n")?;
+    refuses(&rt, &QUERY, &file, "", "refused: Weight at 40\n")?;
     Ok(())
 }
 
@@ -383,7 +405,7 @@ fn check_front<R: Abort + AllocGlobal>(rt: &R, image: &[u8]) -> Result<(), Fail>
     };
     match refusal_of(rt.alloc(), image.len())? {
         Some(refusal) => {
-            refuses(rt, image, lines, &refusal)?;
+            refuses(rt, &QUERY, image, lines, &refusal)?;
             Ok(())
         }
         None => answers(rt, &QUERY, image, lines),
@@ -400,19 +422,62 @@ fn each_front_of_a_file_is_answered(rt: HostRuntime) -> Result<(), Fail> {
 }
 
 #[test]
-fn a_source_fails(rt: HostRuntime) -> Result<(), Fail> {
+fn a_wrong_count_is_refused(rt: HostRuntime) -> Result<(), Fail> {
+    let file = counted_file(rt.alloc(), &[(ONE, TWO), (TEN, TEN), (ONE, TWO)])?;
+    let third = "2 176 84 3ff0000000000000 4000000000000000 3ff0000000000000 4000000000000000\n";
+    let lines = format!(in rt.alloc(); "{BOTH}{third}")?;
+    refuses(&rt, &QUERY, &file, &lines, "refused: FeatureCount at 236\n")?;
+    Ok(())
+}
+
+#[test]
+fn a_file_is_checked(rt: HostRuntime) -> Result<(), Fail> {
+    answers(&rt, &CHECK, &EMPTY, "accepted 0 features 0 nodes\n")?;
+    let two = counted_file(rt.alloc(), &[(ONE, TWO), (TEN, TEN)])?;
+    answers(&rt, &CHECK, &two, "accepted 2 features 0 nodes\n")
+}
+
+#[test]
+fn a_broken_file_is_not_accepted(rt: HostRuntime) -> Result<(), Fail> {
+    let alloc = rt.alloc();
+    refuses(&rt, &CHECK, &EMPTY[..5], "", "refused: Short at 5\n")?;
+    let magic = changed(alloc, &[(3, 2)])?;
+    refuses(&rt, &CHECK, &magic, "", "refused: Magic at 3\n")?;
+    let one = counted_file(alloc, &[(ONE, TWO)])?;
+    refuses(&rt, &CHECK, &one, "", "refused: FeatureCount at 148\n")?;
+    let three = counted_file(alloc, &THREE)?;
+    refuses(&rt, &CHECK, &three, "", "refused: FeatureCount at 236\n")?;
+    Ok(())
+}
+
+/// Runs these words over the file of the three points, whose source fails at the call of this number, and wants that
+/// so many positions were asked for; and once more, where it does not fail, and wants these lines.
+fn source_fails<R: Abort + AllocGlobal>(
+    rt: &R,
+    words: &[&str],
+    call: u64,
+    asked: u64,
+    lines: &str,
+) -> Result<(), Fail> {
     let alloc = rt.alloc();
     let three = file_of(alloc, &THREE)?;
+    let mut file = MemorySource::new(alloc, &three, &[call])?;
+    let ran = run_over(alloc, words, &mut file, &[])?;
+    assert_eq!(rt;
+        (ran.status, ran.out()?, ran.err()?),
+        (3, "", "source failed\n")
+    );
+    assert_eq!(rt; front_of(file.asked()), Some(asked));
+    let again = run_over(alloc, words, &mut file, &[])?;
+    assert_eq!(rt; (again.status, again.out()?, again.err()?), (0, lines, ""));
+    Ok(())
+}
+
+#[test]
+fn a_source_fails(rt: HostRuntime) -> Result<(), Fail> {
     for (call, asked) in [(1, 12), (2, 36), (3, 300)] {
-        let mut file = MemorySource::new(alloc, &three, &[call])?;
-        let ran = run_over(alloc, &QUERY, &mut file, &[])?;
-        assert_eq!(rt;
-            (ran.status, ran.out()?, ran.err()?),
-            (3, "", "source failed\n")
-        );
-        assert_eq!(rt; front_of(file.asked()), Some(asked));
-        let again = run_over(alloc, &QUERY, &mut file, &[])?;
-        assert_eq!(rt; (again.status, again.out()?, again.err()?), (0, BOTH, ""));
+        source_fails(&rt, &QUERY, call, asked, BOTH)?;
+        source_fails(&rt, &CHECK, call, asked, "accepted 3 features 0 nodes\n")?;
     }
     Ok(())
 }
@@ -426,10 +491,11 @@ fn long_file(alloc: Global) -> Result<Vec<u8>, AllocError> {
     Ok(file)
 }
 
-/// Runs a query over these bytes where the calls of these numbers fail, and wants the text, and that a front of
+/// Runs these words over these bytes where the calls of these numbers fail, and wants the text, and that a front of
 /// the lines was written and a front of the bytes asked for. Gives the status.
 fn cut_off<R: Abort + AllocGlobal>(
     rt: &R,
+    words: &[&str],
     image: &[u8],
     fail_read: &[u64],
     fail_write: &[u64],
@@ -437,7 +503,7 @@ fn cut_off<R: Abort + AllocGlobal>(
 ) -> Result<u8, Fail> {
     let alloc = rt.alloc();
     let mut file = MemorySource::new(alloc, image, fail_read)?;
-    let ran = run_over(alloc, &QUERY, &mut file, fail_write)?;
+    let ran = run_over(alloc, words, &mut file, fail_write)?;
     let text = match ran.status {
         3 => "source failed\n",
         4 => "sink failed\n",
@@ -459,11 +525,34 @@ fn a_long_file_is_cut_off(rt: HostRuntime) -> Result<(), Fail> {
     let lines = whole.out.bytes();
     assert_eq!(rt; (whole.status, whole.out()?.lines().count()), (0, 12000));
     for call in 1..5 {
-        assert_eq!(rt; cut_off(&rt, &image, &[call], &[], lines)?, 3, "{call}");
+        assert_eq!(rt;
+            cut_off(&rt, &QUERY, &image, &[call], &[], lines)?,
+            3,
+            "{call}"
+        );
     }
     for call in 1..10 {
-        assert_eq!(rt; cut_off(&rt, &image, &[], &[call], lines)?, 4, "{call}");
+        assert_eq!(rt;
+            cut_off(&rt, &QUERY, &image, &[], &[call], lines)?,
+            4,
+            "{call}"
+        );
     }
-    assert_eq!(rt; cut_off(&rt, &image, &[5], &[100], lines)?, 0);
+    assert_eq!(rt; cut_off(&rt, &QUERY, &image, &[5], &[100], lines)?, 0);
+    Ok(())
+}
+
+#[test]
+fn the_line_of_a_check_is_cut_off(rt: HostRuntime) -> Result<(), Fail> {
+    let three = file_of(rt.alloc(), &THREE)?;
+    let line = b"accepted 3 features 0 nodes\n";
+    for call in 1..6 {
+        assert_eq!(rt;
+            cut_off(&rt, &CHECK, &three, &[], &[call], line)?,
+            4,
+            "{call}"
+        );
+    }
+    assert_eq!(rt; cut_off(&rt, &CHECK, &three, &[], &[6], line)?, 0);
     Ok(())
 }

@@ -1,14 +1,14 @@
 // The top call.
-ghost use Rattle.std.specs.Prelude.{◌≡◌, ◌≢◌, ℕ, List};
-ghost use Rattle.order_keys.specs.declared.bounds.Bounds.{Bounds as Box};
-ghost use Rattle.fgb_tool.specs.Words.{Asks, IsUsage, texts};
+ghost use Rattle.std.specs.Prelude.{◌≡◌, ◌≢◌};
+ghost use Rattle.fgb_tool.specs.Words.{Asks, IsUsage, Request, texts};
 ghost use Rattle.fgb_tool.specs.Texts.{Tells, usage_text};
-ghost use Rattle.fgb_tool.specs.Runs.{IsStatus, Runs};
+ghost use Rattle.fgb_tool.specs.Runs.{Does, IsStatus};
 
+use crate::check::check_file;
 use crate::query::query;
 use crate::stop::Stop;
 use crate::texts::{OUT_OF_MEMORY, SINK_FAILED, SOURCE_FAILED, USAGE, write_refusal};
-use crate::words::read_query;
+use crate::words::{Asked, read_words};
 use fgb_outside::{RangeSource, Sink};
 use std::alloc::Global;
 
@@ -27,7 +27,7 @@ const MEMORY: u8 = 5;
 
 /// Answers the command of the words, which do not hold the program's name, over a file, and gives the status
 /// that the program ends with. What is found is written on `out`; a text that says why there is no answer, on
-/// `err`. The one command today is `query FILE --box=MINX,MINY,MAXX,MAXY`.
+/// `err`. The commands today are `query FILE --box=MINX,MINY,MAXX,MAXY` and `check FILE`.
 pub fn run<S: RangeSource, W: Sink, E: Sink>(
     alloc: Global,
     words: &[&str],
@@ -40,28 +40,26 @@ pub fn run<S: RangeSource, W: Sink, E: Sink>(
     ensures usage_text { result ≡ 2 → Tells (E.shown err.old) (E.shown err.new) usage_text }
     ensures untouched { result ≡ 2 → (S.seen file.new ≡ S.seen file.old) × (W.shown out.new ≡ W.shown out.old) }
 
-    // Else the words ask for the features that meet a box, and this is what happens.
-    ensures asked { result ≢ 2 → (name : List ℕ) × (bounds : Box) × Asks (texts words.now) name bounds }
-    ensures runs { (name : List ℕ) (bounds : Box) → Asks (texts words.now) name bounds → (result ≢ 2)
-        × Runs bounds (S.seen file.old) (S.seen file.new) (W.shown out.old) (W.shown out.new) (E.shown err.old) (E.shown err.new) result }
+    // Else the words ask for the features that meet a box, or whether a file breaks a rule, and this is what happens.
+    ensures asked { result ≢ 2 → (request : Request) × Asks (texts words.now) request }
+    ensures does { (request : Request) → Asks (texts words.now) request → (result ≢ 2)
+        × Does request (S.seen file.old) (S.seen file.new) (W.shown out.old) (W.shown out.new) (E.shown err.old) (E.shown err.new) result }
 {
-    match read_query(words) {
+    match read_words(words) {
         None => {
             let _ = err.write(USAGE.as_bytes());
             WRONG_WORDS
         }
-        Some(sought) => {
-            let queried = query(alloc, sought.bounds, file, out);
-            status_of(queried, err)
-        }
+        Some(Asked::Query(sought)) => status_of(query(alloc, sought.bounds, file, out), err),
+        Some(Asked::Check(_)) => status_of(check_file(alloc, file, out), err),
     }
 }
 
 /// Writes the text of a result that is no answer, and gives its status.
-fn status_of<E: Sink>(queried: Result<(), Stop>, err: &mut E) -> u8
-    ensures { IsStatus queried (E.shown err.old) (E.shown err.new) result }
+fn status_of<E: Sink>(done: Result<(), Stop>, err: &mut E) -> u8
+    ensures { IsStatus done (E.shown err.old) (E.shown err.new) result }
 {
-    match queried {
+    match done {
         Ok(()) => DONE,
         Err(Stop::Refused(broken)) => {
             let _ = write_refusal(err, broken);

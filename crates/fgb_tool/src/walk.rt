@@ -1,170 +1,120 @@
 // A walk over the features of a file, front to back.
-ghost use Rattle.std.specs.Prelude.{◌≡◌, ◌+◌, ◌<◌, ◌≤◌, ℕ, IfOk, OnOk, OnErr, IfErr, IsErrOf, length};
+ghost use Rattle.std.specs.Prelude.{◌≡◌, ◌+◌, ◌≤◌, [], ℕ, List, OnOk, OnErr, IfErr, IsErrOf};
 ghost use Rattle.fgb_outside.specs.Source.{IfTold, Rose};
 ghost use Rattle.fgb_outside.specs.Sink.{Sink as SinkState};
-ghost use Rattle.section_window.specs.Window.{Shows};
-ghost use Rattle.fgb_file.specs.File.{BreaksFeature};
-ghost use Rattle.fgb_tool.specs.Causes.{IfRefused};
-ghost use Rattle.fgb_tool.specs.Reading.{Fetches, FetchesPart};
-ghost use Rattle.fgb_tool.specs.Walks.{Ends, IsSearch, Stands, Steps, size_at};
+ghost use Rattle.fgb_reader.specs.Reading.{Fetches, FetchesPart, Shows, StandsIn, ahead_of, end_of, first_of, next_of, place_of};
+ghost use Rattle.fgb_reader.specs.Tallies.{seen_of};
+ghost use Rattle.fgb_tool.specs.Walks.{Ends, IsSearch, Stands, Stops};
 
 use crate::page::{Entry, Page};
-use crate::start::refused;
 use crate::stop::Stop;
-use byteorder::{ByteOrder, LittleEndian};
-use feature_box::own_box;
+use fgb_feature::FeatureView;
+use fgb_header::HeaderView;
 use fgb_outside::{RangeSource, Sink};
-use flat_views::Rule;
+use fgb_reader::{PREFIX, Pieces, Tally};
 use order_keys::Bounds;
-use section_window::Window;
-
-/// The bytes of a size prefix.
-const PREFIX: usize = 4;
-
-/// The largest buffer of a feature.
-const MAX_FEATURE: usize = 268435456;
 
 /// What is sought, in which file.
-#[derive(Clone, Copy, Debug, PartialEq, Eq)]
-pub(crate) struct Search {
-    /// The geometry type of the header.
-    pub(crate) outer: u8,
+#[derive(Clone, Copy)]
+pub(crate) struct Search<'h> {
+    pub(crate) header: &'h HeaderView<'h>,
     /// The box that a feature's own box is to meet.
     pub(crate) bounds: Bounds,
     /// The place of the first feature.
     pub(crate) first: u64,
 }
 
-/// Makes the next feature lie in the window, with its size prefix, and gives the length of both. Refuses
-/// FeaturePastEnd or FeatureSize at the prefix.
-fn next_piece<S: RangeSource>(window: &mut Window, file: &mut S) -> Result<usize, Stop>
-    requires shows { Shows window.old (S.seen file.old) }
-    requires early { window.old.at < window.old.end }
-    ensures lies { IfOk result (λ len. (4 ≤ len) × (len ≤ length window.new.bytes) × (len ≤ 268435460)) }
-    ensures piece { IfOk result (λ len. IfTold (S.seen file.old) (λ image. len ≡ 4 + size_at image window.old.at)) }
-    ensures same { window.new.at ≡ window.old.at }
-    ensures refused { IfRefused result (λ broken. IfTold (S.seen file.old) (λ image. window.old.end ≡ length image → BreaksFeature image window.old.at broken.place broken.rule)) }
-    ensures fetches { OnOk result (Fetches window.old window.new (S.seen file.old) (S.seen file.new)) }
-    ensures part { OnErr result (FetchesPart window.old window.new (S.seen file.old) (S.seen file.new)) }
-    ensures failed { IsErrOf result Stop.SourceFailed → Rose (S.seen file.old).faults (S.seen file.new).faults }
-    ensures no_sink { IsErrOf result Stop.SinkFailed → ⊥ }
-{
-    let at = window.at();
-    let left = window.end() - at;
-    if left < PREFIX as u64 {
-        return Err(refused(at, Rule::FeaturePastEnd));
-    }
-    window.fill(file, PREFIX)?;
-    let size = LittleEndian::read_u32(window.bytes()) as usize;
-    if PREFIX as u64 + size as u64 > left {
-        return Err(refused(at, Rule::FeaturePastEnd));
-    }
-    if size > MAX_FEATURE {
-        return Err(refused(at, Rule::FeatureSize));
-    }
-    window.fill(file, PREFIX + size)?;
-    Ok(PREFIX + size)
-}
-
-/// Passes the next feature, and adds its line to the page if its own box meets the box that is sought. Refuses
-/// what `next_piece` and the feature's buffer refuse.
-fn step<S: RangeSource>(
-    search: Search,
-    number: u64,
-    window: &mut Window,
+/// Reads and counts the feature that is lent, and adds its line to the page if its own box meets the box that is
+/// sought. Refuses what the feature's buffer breaks.
+fn pass_feature(
+    search: &Search,
+    pieces: &Pieces,
+    tally: &mut Tally,
     page: &mut Page,
-    file: &mut S,
 ) -> Result<(), Stop>
-    requires shows { Shows window.old (S.seen file.old) }
-    requires early { window.old.at < window.old.end }
-    requires first { search.first ≤ window.old.at }
-    ensures steps { OnOk result (IfTold (S.seen file.old) (λ image. window.old.end ≡ length image → Steps image search number window.old.at window.new.at page.old.lines.items page.new.lines.items)) }
-    ensures further { OnOk result (window.old.at + 4 ≤ window.new.at) }
-    ensures same { OnErr result (page.new.lines.items ≡ page.old.lines.items) }
-    ensures refused { IfRefused result (λ broken. IfTold (S.seen file.old) (λ image. IsSearch image search window.old.end → BreaksFeature image window.old.at broken.place broken.rule)) }
-    ensures fetches { OnOk result (Fetches window.old window.new (S.seen file.old) (S.seen file.new)) }
-    ensures part { OnErr result (FetchesPart window.old window.new (S.seen file.old) (S.seen file.new)) }
-    ensures failed { IsErrOf result Stop.SourceFailed → Rose (S.seen file.old).faults (S.seen file.new).faults }
+    requires lent { 4 ≤ pieces.now.len }
+    requires first { first_of pieces.now ≡ search.now.first }
+    requires few { seen_of tally.old ≤ place_of pieces.now }
+    ensures stands { OnOk result ((image : List ℕ) (o o' : SinkState) → IsSearch image search.now (end_of pieces.now) → StandsIn image pieces.now
+        → Stands image search.now.bounds tally.old (place_of pieces.now) o o' page.old.lines.items
+        → Stands image search.now.bounds tally.new (next_of pieces.now) o o' page.new.lines.items) }
+    ensures stops { IfErr result (λ stop. (image : List ℕ) (o o' : SinkState) → IsSearch image search.now (end_of pieces.now) → StandsIn image pieces.now
+        → Stands image search.now.bounds tally.old (place_of pieces.now) o o' page.old.lines.items
+        → Stops image search.now.bounds o o' page.new.lines.items stop) }
+    ensures more { OnOk result (seen_of tally.new ≡ seen_of tally.old + 1) }
+    ensures no_source { IsErrOf result Stop.SourceFailed → ⊥ }
     ensures no_sink { IsErrOf result Stop.SinkFailed → ⊥ }
 {
-    let len = next_piece(window, file)?;
-    let at = window.at();
-    let own = own_box(
-        &window.bytes()[PREFIX..len],
-        at + PREFIX as u64,
-        search.outer,
-    )?;
+    let buffer = pieces.buffer();
+    let place = pieces.place();
+    let own = FeatureView::read(buffer, place + PREFIX as u64, search.header)?.bounds();
     if own.meets(search.bounds) {
         page.add(Entry {
-            number,
-            offset: at - search.first,
-            size: len - PREFIX,
+            number: tally.seen(),
+            offset: place - search.first,
+            size: buffer.len(),
             own,
         })?;
     }
-    window.pass(len);
+    tally.add(place);
     Ok(())
 }
 
-/// One step, after which the page is written if it is full.
-fn turn<S: RangeSource, W: Sink>(
-    search: Search,
-    number: u64,
-    window: &mut Window,
+/// Passes the feature that is lent, and writes the page if it is full.
+fn turn<W: Sink>(
+    search: &Search,
+    pieces: &Pieces,
+    tally: &mut Tally,
     page: &mut Page,
-    file: &mut S,
     out: &mut W,
 ) -> Result<(), Stop>
-    requires shows { Shows window.old (S.seen file.old) }
-    requires early { window.old.at < window.old.end }
-    requires first { search.first ≤ window.old.at }
-    ensures stands { OnOk result (IfTold (S.seen file.old) (λ image. IsSearch image search window.old.end → (o : SinkState)
-        → Stands image search window.old.at number o (W.shown out.old) page.old.lines.items
-        → Stands image search window.new.at (number + 1) o (W.shown out.new) page.new.lines.items)) }
-    ensures ends { IfErr result (λ stop. IfTold (S.seen file.old) (λ image. IsSearch image search window.old.end → (o : SinkState)
-        → Stands image search window.old.at number o (W.shown out.old) page.old.lines.items
-        → Ends image search o (W.shown out.new) page.new.lines.items stop)) }
-    ensures further { OnOk result (window.old.at + 4 ≤ window.new.at) }
-    ensures fetches { OnOk result (Fetches window.old window.new (S.seen file.old) (S.seen file.new)) }
-    ensures part { OnErr result (FetchesPart window.old window.new (S.seen file.old) (S.seen file.new)) }
-    ensures failed { IsErrOf result Stop.SourceFailed → Rose (S.seen file.old).faults (S.seen file.new).faults }
+    requires lent { 4 ≤ pieces.now.len }
+    requires first { first_of pieces.now ≡ search.now.first }
+    requires few { seen_of tally.old ≤ place_of pieces.now }
+    ensures stands { OnOk result ((image : List ℕ) (o : SinkState) → IsSearch image search.now (end_of pieces.now) → StandsIn image pieces.now
+        → Stands image search.now.bounds tally.old (place_of pieces.now) o (W.shown out.old) page.old.lines.items
+        → Stands image search.now.bounds tally.new (next_of pieces.now) o (W.shown out.new) page.new.lines.items) }
+    ensures stops { IfErr result (λ stop. (image : List ℕ) (o : SinkState) → IsSearch image search.now (end_of pieces.now) → StandsIn image pieces.now
+        → Stands image search.now.bounds tally.old (place_of pieces.now) o (W.shown out.old) page.old.lines.items
+        → Stops image search.now.bounds o (W.shown out.new) page.new.lines.items stop) }
+    ensures more { OnOk result (seen_of tally.new ≡ seen_of tally.old + 1) }
+    ensures no_source { IsErrOf result Stop.SourceFailed → ⊥ }
     ensures sink_failed { IsErrOf result Stop.SinkFailed → Rose (W.shown out.old).faults (W.shown out.new).faults }
     ensures later { (W.shown out.old).faults ≤ (W.shown out.new).faults }
 {
-    step(search, number, window, page, file)?;
+    pass_feature(search, pieces, tally, page)?;
     if page.is_full() {
         page.write(out)?;
     }
     Ok(())
 }
 
-/// Goes through the features that are left, and leaves on the page what is still to be written.
+/// Goes through the features, and leaves on the page what is still to be written. Refuses what a size prefix or
+/// a feature breaks, and at the end FeatureCount where there are more or fewer than the header says.
 pub(crate) fn walk<S: RangeSource, W: Sink>(
-    search: Search,
-    window: &mut Window,
+    search: &Search,
+    pieces: &mut Pieces,
     page: &mut Page,
     file: &mut S,
     out: &mut W,
 ) -> Result<(), Stop>
-    requires shows { Shows window.old (S.seen file.old) }
-    requires first { search.first ≤ window.old.at }
-    ensures stands { OnOk result (IfTold (S.seen file.old) (λ image. IsSearch image search window.old.end → (o : SinkState)
-        → Stands image search window.old.at 0 o (W.shown out.old) page.old.lines.items
-        → (number : ℕ) × Stands image search window.new.at number o (W.shown out.new) page.new.lines.items)) }
-    ensures ends { IfErr result (λ stop. IfTold (S.seen file.old) (λ image. IsSearch image search window.old.end → (o : SinkState)
-        → Stands image search window.old.at 0 o (W.shown out.old) page.old.lines.items
-        → Ends image search o (W.shown out.new) page.new.lines.items stop)) }
-    ensures whole { OnOk result (window.old.end ≤ window.new.at) }
-    ensures fetches { OnOk result (Fetches window.old window.new (S.seen file.old) (S.seen file.new)) }
-    ensures part { OnErr result (FetchesPart window.old window.new (S.seen file.old) (S.seen file.new)) }
+    requires shows { Shows pieces.old (S.seen file.old) }
+    requires first { first_of pieces.old ≡ search.now.first }
+    requires next { next_of pieces.old ≡ search.now.first }
+    requires empty { page.old.lines.items ≡ [] }
+    ensures ends { OnOk result (IfTold (S.seen file.old) (λ image. IsSearch image search.now (end_of pieces.old) → Ends image search.now.bounds (W.shown out.old) (W.shown out.new) page.new.lines.items)) }
+    ensures stops { IfErr result (λ stop. IfTold (S.seen file.old) (λ image. IsSearch image search.now (end_of pieces.old) → Stops image search.now.bounds (W.shown out.old) (W.shown out.new) page.new.lines.items stop)) }
+    ensures fetches { OnOk result (Fetches pieces.old pieces.new (S.seen file.old) (S.seen file.new)) }
+    ensures whole { OnOk result (ahead_of pieces.new ≡ end_of pieces.old) }
+    ensures part { OnErr result (FetchesPart pieces.old pieces.new (S.seen file.old) (S.seen file.new)) }
     ensures failed { IsErrOf result Stop.SourceFailed → Rose (S.seen file.old).faults (S.seen file.new).faults }
     ensures sink_failed { IsErrOf result Stop.SinkFailed → Rose (W.shown out.old).faults (W.shown out.new).faults }
     ensures later { (W.shown out.old).faults ≤ (W.shown out.new).faults }
 {
-    let mut number = 0;
-    while window.at() < window.end() {
-        turn(search, number, window, page, file, out)?;
-        number += 1;
+    let mut tally = Tally::new(search.header.features_count());
+    while pieces.advance(file)? {
+        turn(search, pieces, &mut tally, page, out)?;
     }
+    tally.judge(pieces.end())?;
     Ok(())
 }

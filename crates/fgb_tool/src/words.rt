@@ -1,23 +1,27 @@
 // The words of a command.
-ghost use Rattle.std.specs.Prelude.{◌≡◌, ◌++◌, ℕ, List, codes, IsTrue, IfSome, IfNone, IsSomeAnd};
+ghost use Rattle.std.specs.Prelude.{◌≡◌, ◌∷◌, ◌++◌, [], ℕ, List, codes, IsTrue, IfSome, IfNone, IsSomeAnd};
 ghost use Rattle.order_keys.specs.declared.bounds.Bounds.{Bounds as Box};
 ghost use Rattle.order_keys.specs.Words.{SpellsBox};
-ghost use Rattle.fgb_tool.specs.Words.{texts, is_file_word, Asks, IsUsage, IsFileTarget};
+ghost use Rattle.fgb_tool.specs.Asking.{request_of};
+ghost use Rattle.fgb_tool.specs.Words.{texts, is_file_word, Asks, IsUsage, IsFileTarget, Request, command_of, file_of};
 
 use crate::command::{Command, Plan, Target};
 use order_keys::{Bounds, read_box};
 
-/// What the words, which do not hold the program's name, ask for, or None where no call accepts them. The one
-/// command today is `query FILE --box=MINX,MINY,MAXX,MAXY`.
+/// What the words, which do not hold the program's name, ask for, or None where no call accepts them. The commands
+/// today are `query FILE --box=MINX,MINY,MAXX,MAXY` and `check FILE`.
 pub fn plan<'a>(words: &[&'a str]) -> Option<Plan<'a>>
-    ensures planned { IfSome result (λ plan. (file : List ℕ) × (bounds : Box) × Asks (texts words.now) file bounds
-        × (plan.command ≡ Command.Query) × IsFileTarget plan.target file × (plan.port ≡ 0)) }
+    ensures planned { IfSome result (λ plan. (request : Request) × Asks (texts words.now) request
+        × (plan.command ≡ command_of request) × IsFileTarget plan.target (file_of request) × (plan.port ≡ 0)) }
     ensures usage { IfNone result (IsUsage (texts words.now)) }
 {
-    let query = read_query(words)?;
+    let (command, file) = match read_words(words)? {
+        Asked::Query(query) => (Command::Query, query.file),
+        Asked::Check(file) => (Command::Check, file),
+    };
     Some(Plan {
-        command: Command::Query,
-        target: Target::File(query.file),
+        command,
+        target: Target::File(file),
         port: 0,
     })
 }
@@ -29,21 +33,57 @@ pub(crate) struct Query<'a> {
     pub(crate) bounds: Bounds,
 }
 
-/// Reads the words of a query.
-pub(crate) fn read_query<'a>(words: &[&'a str]) -> Option<Query<'a>>
-    ensures asked { IfSome result (λ query. Asks (texts words.now) query.file.now query.bounds) }
-    ensures only { (file : List ℕ) (bounds : Box) → Asks (texts words.now) file bounds
-        → IsSomeAnd result (λ query. (query.file.now ≡ file) × (query.bounds ≡ bounds)) }
+/// What words ask for.
+#[derive(Clone, Copy)]
+pub(crate) enum Asked<'a> {
+    /// The features of a file that meet a box.
+    Query(Query<'a>),
+    /// Whether the file of this name breaks a rule.
+    Check(&'a str),
+}
+
+/// Reads the words of a command.
+pub(crate) fn read_words<'a>(words: &[&'a str]) -> Option<Asked<'a>>
+    ensures asked { IfSome result (λ asked. Asks (texts words.now) (request_of asked)) }
+    ensures only { (request : Request) → Asks (texts words.now) request → IsSomeAnd result (λ asked. request_of asked ≡ request) }
 {
-    let [command, first, second] = words else {
+    let [command, rest @ ..] = words else {
         return None;
     };
-    if *command != "query" {
-        return None;
+    match *command {
+        "query" => read_query(rest),
+        "check" => read_check(rest),
+        _ => None,
     }
-    match box_text(first) {
-        Some(text) => query_of(second, text),
-        None => query_of(first, box_text(second)?),
+}
+
+/// A query by the file word and the word of the box, in either order.
+fn read_query<'a>(words: &[&'a str]) -> Option<Asked<'a>>
+    ensures asked { IfSome result (λ asked. Asks (codes "query" ∷ texts words.now) (request_of asked)) }
+    ensures only { (request : Request) → Asks (codes "query" ∷ texts words.now) request → IsSomeAnd result (λ asked. request_of asked ≡ request) }
+{
+    let [first, second] = words else {
+        return None;
+    };
+    let query = match box_text(first) {
+        Some(text) => query_of(second, text)?,
+        None => query_of(first, box_text(second)?)?,
+    };
+    Some(Asked::Query(query))
+}
+
+/// A check by the file word.
+fn read_check<'a>(words: &[&'a str]) -> Option<Asked<'a>>
+    ensures asked { IfSome result (λ asked. Asks (codes "check" ∷ texts words.now) (request_of asked)) }
+    ensures only { (request : Request) → Asks (codes "check" ∷ texts words.now) request → IsSomeAnd result (λ asked. request_of asked ≡ request) }
+{
+    let [file] = words else {
+        return None;
+    };
+    if is_file_word(file) {
+        Some(Asked::Check(file))
+    } else {
+        None
     }
 }
 

@@ -1,7 +1,7 @@
 -- How a geometry by itself and its parts go together: what is broken, what both weigh, and what a refusal names.
-use Rattle.std.proofs.Common.{◌≡◌, ◌⊎◌, inl, inr, ⊎_elim, ℕ, ◌+◌, ◌*◌, ◌<◌, ◌≤◌, true, false, List, Option, Some, None, sym, subst, ◌∙◌, arith}
+use Rattle.std.proofs.Common.{◌≡◌, ◌⊎◌, inl, inr, ⊎_elim, ℕ, ◌+◌, ◌*◌, ◌<◌, ◌≤◌, true, false, List, Option, Some, None, Result, Ok, Err, sym, subst, ◌∙◌, arith}
+use Rattle.std.specs.Prelude.{⊤}
 use Rattle.std.proofs.lemmas.Bool.{cases_Bool, true≢false}
-use Rattle.std.specs.Option.{ForSome}
 use Rattle.flat_layout.specs.declared.Rule.TheVariants.{Weight}
 use Rattle.flat_layout.specs.declared.Broken.{Broken}
 use Rattle.flat_layout.specs.Layout.{is_table, is_absent, is_vector, led_to, count}
@@ -12,34 +12,31 @@ use Rattle.flat_views.proofs.Placed.{at_list, sound_list}
 use Rattle.flat_views.specs.TableVecs.{ShowsTables, IsTableVecAt, tables_base, tables_bytes, tables_place}
 use Rattle.fgb_schema.specs.Tables.{geometry, tables as tables_thing, is_kind, has_parts, part_type}
 use Rattle.fgb_schema.specs.Paths.{Part, thing, Breaks, geometry_part}
-use Rattle.fgb_schema.specs.Weights.{IsPaid}
+use Rattle.fgb_schema.specs.Weights.{Goes, IsPaid}
 use Rattle.fgb_schema.proofs.TablesRead.{Refuses}
 use Rattle.fgb_schema.proofs.Weighing.{heavier, entries_weigh, entries_heavier}
-use Rattle.geometry_view.specs.declared.lists.Lists.{Lists}
-use Rattle.geometry_view.specs.Lists.{ShowsLists, BreaksOwn, BreaksVectors, weight_of}
+use Rattle.geometry_view.specs.Fits.{ShowsReadTables}
+use Rattle.geometry_view.specs.Lists.{BreaksOwn, BreaksVectors, weight_of}
 use Rattle.geometry_view.proofs.OwnLevel.{own_breaks, own_clean, parts_breaks, parts_link, own_weighs_alone, own_weighs_with, own_least, own_least_alone}
-
-some_injective : {A : Type 0} {x y : A} → Some x ≡ Some y → x ≡ y
-some_injective same = cc
 
 -- the list of parts at v of a geometry of this type at this depth
 abbrev pub parts_at : ℕ → ℕ → ℕ → Part
 parts_at k depth v = thing (tables_thing (geometry (part_type k) (depth + 1))) v
 
 -- a list that is there is the one that the field leads to
-module _ (k : ℕ) (b : List ℕ) (base t : ℕ) (lists : Lists) (shows : ShowsLists k b base t lists) where
-  pub parts_there : (tables : TableVec) → lists.parts ≡ Some tables → (has_parts k ≡ true) × (is_absent b t 7 ≡ false) × IsTableVecAt b base (led_to b t 7) tables
+module _ (k : ℕ) (b : List ℕ) (base t : ℕ) (parts : Option TableVec) (shows : ShowsReadTables (has_parts k) b base t 7 parts) where
+  pub parts_there : (tables : TableVec) → parts ≡ Some tables → (has_parts k ≡ true) × (is_absent b t 7 ≡ false) × IsTableVecAt b base (led_to b t 7) tables
   parts_there tables is = elim (cases_Bool (has_parts k)) [
     | inl has ↦
-        let list = rw has at shows.parts in
+        let list = rw has at shows in
         let there : ShowsTables b base t 7 (Some tables) = subst (ShowsTables b base t 7) is list in
         (has, there.0, there.1)
-    | inr lacks ↦ let list = rw lacks at shows.parts in let e : Some tables ≡ None = sym is ∙ list in cc
+    | inr lacks ↦ let list = rw lacks at shows in let e : Some tables ≡ None = sym is ∙ list in cc
   ]
 
   -- and one that is not there is not read, or absent
-  pub parts_missing : lists.parts ≡ None → has_parts k ≡ true → is_absent b t 7 ≡ true
-  parts_missing is has = let list = rw has at shows.parts in subst (ShowsTables b base t 7) is list
+  pub parts_missing : parts ≡ None → has_parts k ≡ true → is_absent b t 7 ≡ true
+  parts_missing is has = let list = rw has at shows in subst (ShowsTables b base t 7) is list
 
 -- a geometry of this type at this depth, and a meter that had so much before its own weight was taken off
 module _ (k depth base : ℕ) (b : List ℕ) (t : ℕ) (sound : is_table b t ≡ true) (known : is_kind k ≡ true) where
@@ -111,52 +108,29 @@ module _ (k depth base : ℕ) (b : List ℕ) (t : ℕ) (sound : is_table b t ≡
           let rest : after ≤ 4 * count b (led_to b t 7) + left = refused.1 in omega (arith, rest, list_weighs, taken),
         )
 
--- the parts of a list that is there break nothing
-abbrev pub ArePartsClean : ℕ → ℕ → Option TableVec → Type 0
-ArePartsClean k depth parts = ForSome parts (λ tables. IsClean (Breaks (tables_bytes tables) (parts_at k depth (tables_place tables))))
+-- a geometry whose table was read by itself goes as its list of parts does, if it has one
+module _ (k depth base : ℕ) (b : List ℕ) (t : ℕ) (sound : is_table b t ≡ true) (known : is_kind k ≡ true) (shallow : depth ≤ 16)
+    (parts : Option TableVec) (shows : ShowsReadTables (has_parts k) b base t 7 parts) (clean : IsClean (BreaksOwn k b t)) where
+  pub goes_alone : (at before after : ℕ) → after + weight_of k b t ≡ before → parts ≡ None → Goes base b (geometry_part k depth t) at before after (λ (u : Unit {0}). ⊤) (Ok tt)
+  goes_alone at before after taken is =
+      let missing = parts_missing k b base t parts shows is in
+      (tt, alone_clean k depth base b t sound known clean shallow missing, alone_paid k depth base b t sound known clean before after taken missing)
 
-pub some_parts : (k depth : ℕ) (parts : Option TableVec) (tables : TableVec) → parts ≡ Some tables → IsClean (Breaks (tables_bytes tables) (parts_at k depth (tables_place tables))) → ArePartsClean k depth parts
-some_parts k depth parts tables is all other same =
-    let e : tables ≡ other = some_injective (sym is ∙ same) in subst (λ o. IsClean (Breaks (tables_bytes o) (parts_at k depth (tables_place o)))) e all
-
-pub no_parts : (k depth : ℕ) (parts : Option TableVec) → parts ≡ None → ArePartsClean k depth parts
-no_parts k depth parts is other same = let e : None ≡ Some other = sym is ∙ same in cc
-
--- a geometry with these lists and its parts break nothing, and a meter paid for it
-pub record IsWhole (k depth : ℕ) (b : List ℕ) (t : ℕ) (lists : Lists) (before after : ℕ) : Type 0 where
-  pub parts_sound : ArePartsClean k depth lists.parts
-  pub sound : IsClean (Breaks b (geometry_part k depth t))
-  pub paid : IsPaid b (geometry_part k depth t) before after
-
--- a geometry whose lists were read
-module _ (k depth base : ℕ) (b : List ℕ) (t : ℕ) (sound : is_table b t ≡ true) (known : is_kind k ≡ true)
-    (lists : Lists) (shows : ShowsLists k b base t lists) (clean : IsClean (BreaksOwn k b t)) where
-  pub whole_alone : (before after : ℕ) → depth ≤ 16 → after + weight_of k b t ≡ before → lists.parts ≡ None → IsWhole k depth b t lists before after
-  whole_alone before after shallow taken is =
-      let missing = parts_missing k b base t lists shows is in record {
-        parts_sound = no_parts k depth lists.parts is;
-        sound = alone_clean k depth base b t sound known clean shallow missing;
-        paid = alone_paid k depth base b t sound known clean before after taken missing;
-      }
-
-  module _ (tables : TableVec) (is : lists.parts ≡ Some tables) (before left after : ℕ) (taken : left + weight_of k b t ≡ before) where
+  module _ (tables : TableVec) (is : parts ≡ Some tables) (before left after : ℕ) (taken : left + weight_of k b t ≡ before) where
     there : (has_parts k ≡ true) × (is_absent b t 7 ≡ false) × IsTableVecAt b base (led_to b t 7) tables
-    there = parts_there k b base t lists shows tables is
+    there = parts_there k b base t parts shows tables is
 
     listed : is_vector 4 b (led_to b t 7) ≡ true
     listed = at_list base b (led_to b t 7) tables there.2 (λ _ s v. is_vector 4 s v ≡ true) (sound_list tables)
 
-    pub whole_with : depth ≤ 16 → IsClean (Breaks (tables_bytes tables) (parts_at k depth (tables_place tables)))
-        → IsPaid (tables_bytes tables) (parts_at k depth (tables_place tables)) (4 * count (tables_bytes tables) (tables_place tables) + left) after → IsWhole k depth b t lists before after
-    whole_with shallow all paid = record {
-      parts_sound = some_parts k depth lists.parts tables is all;
-      sound = parts_clean k depth base b t sound known clean there.0 there.1 listed shallow (at_list base b (led_to b t 7) tables there.2 (λ _ s v. IsClean (Breaks s (parts_at k depth v))) all);
-      paid = parts_paid k depth base b t sound known clean there.0 there.1 listed before left after taken
-          (at_list base b (led_to b t 7) tables there.2 (λ _ s v. IsPaid s (parts_at k depth v) (4 * count s v + left) after) paid);
-    }
-
-    pub refuse_parts : (at at' : ℕ) (e : Broken) → at ≡ at'
-        → Refuses (tables_base tables) (tables_bytes tables) (parts_at k depth (tables_place tables)) at (4 * count (tables_bytes tables) (tables_place tables) + left) after e
-        → Refuses base b (geometry_part k depth t) at' before after e
-    refuse_parts at at' e same refused = refuse_list k depth base b t sound known clean there.0 there.1 listed before left after taken at at' e same
+    pub goes_with : (at at' : ℕ) → at ≡ at' → (r : Result (Unit {0}) Broken)
+        → Goes (tables_base tables) (tables_bytes tables) (parts_at k depth (tables_place tables)) at (4 * count (tables_bytes tables) (tables_place tables) + left) after (λ _. ⊤) r
+        → Goes base b (geometry_part k depth t) at' before after (λ _. ⊤) r
+    goes_with at at' same (Ok u) read = (
+      tt,
+      parts_clean k depth base b t sound known clean there.0 there.1 listed shallow (at_list base b (led_to b t 7) tables there.2 (λ _ s v. IsClean (Breaks s (parts_at k depth v))) read.1),
+      parts_paid k depth base b t sound known clean there.0 there.1 listed before left after taken
+          (at_list base b (led_to b t 7) tables there.2 (λ _ s v. IsPaid s (parts_at k depth v) (4 * count s v + left) after) read.2),
+    )
+    goes_with at at' same (Err e) refused = refuse_list k depth base b t sound known clean there.0 there.1 listed before left after taken at at' e same
         (at_list base b (led_to b t 7) tables there.2 (λ j s v. Refuses j s (parts_at k depth v) at (4 * count s v + left) after e) refused)

@@ -9,4 +9,4 @@ pub mod OwnBoxes
 pub mod BoxRows
 pub mod OwnNumbers
 pub mod OwnShapes
-pub mod OwnKinds
+pub mod ViewLists

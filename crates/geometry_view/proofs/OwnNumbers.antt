@@ -1,8 +1,7 @@
 -- What the getters of a geometry read of its lists: points, rings and parts, one by one.
-use Rattle.std.proofs.Common.{◌≡◌, ◌≢◌, inl, inr, ℕ, zero, suc, ◌+◌, ◌-◌, ◌*◌, ◌/◌, ◌<◌, Bool, true, false, List, [], ◌∷◌, length, map, Option, Some, None, refl, ap, sym, subst, ◌∙◌, arith}
+use Rattle.std.proofs.Common.{◌≡◌, ◌≢◌, inl, inr, ℕ, zero, suc, ◌+◌, ◌-◌, ◌*◌, ◌/◌, ◌<◌, Bool, true, false, List, [], ◌∷◌, length, Option, Some, None, refl, ap, sym, subst, ◌∙◌, arith}
 use Rattle.std.specs.Prelude.{slice_get, slice_index, if◌then◌else◌}
 use Rattle.std.specs.Option.{ForSome, MatchOption}
-use Rattle.std.specs.List.{range_with_len}
 use Rattle.std.proofs.lemmas.List.{nil_from_length}
 use Rattle.std.proofs.lemmas.Bool.{cases_eq}
 use Rattle.std.proofs.lemmas.Bool.Decides.{eqb_tells}
@@ -13,13 +12,10 @@ use Rattle.flat_views.specs.declared.vectors.VecView.{VecView}
 use Rattle.flat_views.specs.declared.vectors.TableVec.{TableVec}
 use Rattle.flat_views.specs.Vectors.{longs_shown, words_shown, vector_bytes, vector_place, vector_width}
 use Rattle.flat_views.specs.TableVecs.{tables_bytes, tables_place}
-use Rattle.fgb_schema.specs.Tables.{part_type}
-use Rattle.fgb_schema.specs.Shapes.{Shape, shape, Ordinates, pairs_of, rings_from, rings_of, shapes_of, shape_at, parts_in, points_in, rings_in, ordinates_in}
+use Rattle.fgb_schema.specs.Shapes.{Shape, Ordinates, pairs_of, rings_from, rings_of, shape_at}
 use Rattle.fgb_schema.proofs.CleanEntries.{made_at}
-use Rattle.geometry_view.specs.declared.geometry.GeometryView.{GeometryView}
 use Rattle.geometry_view.specs.declared.kind.Ordinate.{Ordinate}
-use Rattle.geometry_view.specs.Kinds.{number_of}
-use Rattle.geometry_view.specs.Views.{geometry_shown, listed, parts_shown}
+use Rattle.geometry_view.specs.Views.{listed, parts_shown}
 
 -- half as many points as numbers, each from two of them
 pub length-pairs : (xs : List ℕ) → length (pairs_of xs) ≡ length xs / 2
@@ -51,45 +47,28 @@ rings_from_later first [] i early = absurd (omega (arith, early))
 rings_from_later first (end ∷ rest) zero early = rings_from_first end rest (omega (arith, early))
 rings_from_later first (end ∷ rest) (suc i) early = rings_from_later end rest i (omega (arith, early))
 
--- the parts of a shape that was made of a list of them
-pub parts_in_of : (kind : ℕ) (own rings : List (ℕ × ℕ)) (ordinates : Ordinates) (parts : List Shape) → parts_in (shape kind own rings ordinates (shapes_of parts)) ≡ parts
-parts_in_of kind own rings ordinates [] = refl
-parts_in_of kind own rings ordinates (first ∷ rest) = ap (λ xs. first ∷ xs) (parts_in_of kind own rings ordinates rest)
+-- the points of a vector: how many, and each
+module _ (v : VecView) where
+  abbrev pub pairs_in : List (ℕ × ℕ)
+  pairs_in = pairs_of (longs (vector_bytes v) (vector_place v))
 
--- of a list that is there: how many points, and each
-pub points_some : (list : Option VecView) (v : VecView) → list ≡ Some v → length (pairs_of (longs_shown list)) ≡ count (vector_bytes v) (vector_place v) / 2
-points_some list v is =
-    ap (λ o. length (pairs_of (longs_shown o))) is ∙ length-pairs (longs (vector_bytes v) (vector_place v)) ∙ ap (λ n. n / 2) (length-longs (vector_bytes v) (vector_place v))
+  pub pairs_count : length pairs_in ≡ count (vector_bytes v) (vector_place v) / 2
+  pairs_count = length-pairs (longs (vector_bytes v) (vector_place v)) ∙ ap (λ n. n / 2) (length-longs (vector_bytes v) (vector_place v))
 
-pub point_some : (list : Option VecView) (v : VecView) (i : ℕ) → list ≡ Some v → i < length (pairs_of (longs_shown list))
-    → slice_get (pairs_of (longs_shown list)) i ≡ Some (slice_index (longs (vector_bytes v) (vector_place v)) (2 * i), slice_index (longs (vector_bytes v) (vector_place v)) (2 * i + 1))
-point_some list v i is early =
-    ap (λ o. slice_get (pairs_of (longs_shown o)) i) is
-    ∙ pairs_at (longs (vector_bytes v) (vector_place v)) i (subst (λ o. i < length (pairs_of (longs_shown o))) is early)
+  -- both numbers of a point are in the vector
+  pub pair_early : (i : ℕ) → i < length pairs_in → 2 * i + 1 < count (vector_bytes v) (vector_place v)
+  pair_early i early = omega (arith, early, pairs_count)
 
--- both numbers of a point are in the list
-pub point_early : (list : Option VecView) (v : VecView) (i : ℕ) → list ≡ Some v → i < length (pairs_of (longs_shown list)) → 2 * i + 1 < count (vector_bytes v) (vector_place v)
-point_early list v i is early = omega (arith, early, points_some list v is)
-
--- how many parts, and each
-parts_shown_some : (kind : ℕ) (own rings : List (ℕ × ℕ)) (ordinates : Ordinates) (depth : ℕ) (list : Option TableVec) (tables : TableVec) → list ≡ Some tables
-    → parts_in (shape kind own rings ordinates (parts_shown kind depth list))
-    ≡ map (λ i. shape_at (15 - depth) (part_type kind) (tables_bytes tables) (target (tables_bytes tables) (entry_place (tables_bytes tables) (tables_place tables) i))) (range_with_len 0 (count (tables_bytes tables) (tables_place tables)))
-parts_shown_some kind own rings ordinates depth list tables is =
-    ap (λ o. parts_in (shape kind own rings ordinates (parts_shown kind depth o))) is ∙ parts_in_of kind own rings ordinates _
-
-module _ (g : GeometryView) (tables : TableVec) (is : g.lists.parts ≡ Some tables) where
+-- the shapes of a list: how many, and each
+module _ (levels outer : ℕ) (tables : TableVec) where
   abbrev pub part_shown : ℕ → Shape
-  part_shown i = shape_at (15 - g.depth) (part_type (number_of g.kind)) (tables_bytes tables) (target (tables_bytes tables) (entry_place (tables_bytes tables) (tables_place tables) i))
+  part_shown i = shape_at levels outer (tables_bytes tables) (target (tables_bytes tables) (entry_place (tables_bytes tables) (tables_place tables) i))
 
-  parts_some : parts_in (geometry_shown g) ≡ map part_shown (range_with_len 0 (count (tables_bytes tables) (tables_place tables)))
-  parts_some = parts_shown_some (number_of g.kind) (points_in (geometry_shown g)) (rings_in (geometry_shown g)) (ordinates_in (geometry_shown g)) g.depth g.lists.parts tables is
+  pub parts_count : length (parts_shown levels outer (Some tables)) ≡ count (tables_bytes tables) (tables_place tables)
+  parts_count = length-map-range_with_len part_shown 0 (count (tables_bytes tables) (tables_place tables))
 
-  pub parts_count : length (parts_in (geometry_shown g)) ≡ count (tables_bytes tables) (tables_place tables)
-  parts_count = ap length parts_some ∙ length-map-range_with_len part_shown 0 (count (tables_bytes tables) (tables_place tables))
-
-  pub part_some : (i : ℕ) → i < count (tables_bytes tables) (tables_place tables) → slice_get (parts_in (geometry_shown g)) i ≡ Some (part_shown i)
-  part_some i early = ap (λ xs. slice_get xs i) parts_some ∙ made_at part_shown (count (tables_bytes tables) (tables_place tables)) i early
+  pub part_some : (i : ℕ) → i < count (tables_bytes tables) (tables_place tables) → slice_get (parts_shown levels outer (Some tables)) i ≡ Some (part_shown i)
+  part_some i early = made_at part_shown (count (tables_bytes tables) (tables_place tables)) i early
 
 -- the ends that are given, or one ring of all points
 pub record IsGiven (list : Option VecView) (v : VecView) : Type 0 where

@@ -1,7 +1,6 @@
 -- How the lists that a geometry's table leads to are read, weighed and judged.
 use Rattle.std.proofs.Common.{◌≡◌, ◌⊎◌, inl, inr, ℕ, ◌+◌, ◌*◌, ◌/◌, ◌^◌, ◌<◌, ◌≤◌, Bool, true, false, List, Option, Some, None, Result, Ok, Err, refl, ap, sym, subst, ◌∙◌, arith, lit≤, if◌then◌else◌}
 use Rattle.std.specs.Prelude.{⊤, IsTrue}
-use Rattle.std.specs.Bool.{MatchBool}
 use Rattle.std.specs.List.{All}
 use Rattle.std.proofs.lemmas.Bool.{MatchBool-at_true, true≢false, false≢true}
 use Rattle.flat_layout.specs.declared.Rule.{Rule}
@@ -22,7 +21,7 @@ use Rattle.flat_views.proofs.Placed.{at_vector}
 use Rattle.fgb_schema.specs.Tables.{has_points, has_rings, has_parts}
 use Rattle.fgb_schema.specs.Paths.{IsAmong, BreaksPairs, count_in}
 use Rattle.geometry_view.specs.declared.lists.Lists.{Lists}
-use Rattle.geometry_view.specs.Fits.{counted, tables_counted, BreaksRead, BreaksRings, BreaksCount, JudgesSome}
+use Rattle.geometry_view.specs.Fits.{counted, tables_counted, BreaksRead, BreaksRings, BreaksCount, JudgesSome, ShowsRead, ShowsReadTables}
 use Rattle.geometry_view.specs.Lists.{BreaksVectors, BreaksFit, BreaksOwn, ShowsLists, AreFinite, weight_of, weight_shown}
 use Rattle.geometry_view.proofs.VectorFields.{count_there, point_vectors, from_ring, from_point, from_part}
 use Rattle.geometry_view.proofs.Fitting.{BreaksThere, IsPoints, count_broken, fit_clean}
@@ -51,7 +50,7 @@ module _ (width : ℕ) (b : List ℕ) (base t f : ℕ) where
 
   -- what is judged of a vector, where it is there, is judged of the field
   pub judged_there : (k points : ℕ) (is_read : Bool) (Breaks : List ℕ → ℕ → ℕ → Rule → Type 0) (Shows : List ℕ → ℕ → Type 0) (o : Option VecView) (r : Result (Unit {0}) Broken)
-      → MatchBool is_read (ShowsVector width b base t f o) (o ≡ None) → JudgesSome Breaks Shows o r → Judges base (BreaksThere k points b t is_read Breaks f) (λ _. ⊤) r
+      → ShowsRead is_read width b base t f o → JudgesSome Breaks Shows o r → Judges base (BreaksThere k points b t is_read Breaks f) (λ _. ⊤) r
   judged_there k points true Breaks Shows None (Ok u) shows judged = (tt, λ q r broken. let wrong : true ≡ false = sym shows ∙ broken.1 in true≢false wrong)
   judged_there k points false Breaks Shows None (Ok u) shows judged = (tt, λ q r broken. false≢true broken.0)
   judged_there k points is_read Breaks Shows None (Err e) shows judged = absurd (false≢true judged)
@@ -71,19 +70,19 @@ tables_same b base t f (Some tables) shows =
 
 -- the lists of a table weigh what it weighs
 module _ (k : ℕ) (b : List ℕ) (base t : ℕ) (lists : Lists) (shows : ShowsLists k b base t lists) where
-  ring_weight : (s : Bool) → MatchBool s (ShowsVector 4 b base t 0 lists.ends) (lists.ends ≡ None) → 4 * counted lists.ends ≡ (if s then 4 * count_in b t 0 else 0)
+  ring_weight : (s : Bool) → ShowsRead s 4 b base t 0 lists.ends → 4 * counted lists.ends ≡ (if s then 4 * count_in b t 0 else 0)
   ring_weight true there = ap (λ n. 4 * n) (counted_same 4 b base t 0 lists.ends there)
   ring_weight false none = ap (λ o. 4 * counted o) none
 
-  point_weight : (s : Bool) → MatchBool s (ShowsVector 8 b base t 1 lists.xy) (lists.xy ≡ None) → MatchBool s (ShowsVector 8 b base t 2 lists.z) (lists.z ≡ None)
-      → MatchBool s (ShowsVector 8 b base t 3 lists.m) (lists.m ≡ None) → MatchBool s (ShowsVector 8 b base t 4 lists.t) (lists.t ≡ None) → MatchBool s (ShowsVector 8 b base t 5 lists.tm) (lists.tm ≡ None)
+  point_weight : (s : Bool) → ShowsRead s 8 b base t 1 lists.xy → ShowsRead s 8 b base t 2 lists.z
+      → ShowsRead s 8 b base t 3 lists.m → ShowsRead s 8 b base t 4 lists.t → ShowsRead s 8 b base t 5 lists.tm
       → 8 * (counted lists.xy + counted lists.z + counted lists.m + counted lists.t + counted lists.tm)
       ≡ (if s then 8 * (count_in b t 1 + count_in b t 2 + count_in b t 3 + count_in b t 4 + count_in b t 5) else 0)
   point_weight true xy z m t' tm =
       omega (arith, counted_same 8 b base t 1 lists.xy xy, counted_same 8 b base t 2 lists.z z, counted_same 8 b base t 3 lists.m m, counted_same 8 b base t 4 lists.t t', counted_same 8 b base t 5 lists.tm tm)
   point_weight false xy z m t' tm = omega (arith, ap counted xy, ap counted z, ap counted m, ap counted t', ap counted tm)
 
-  part_weight : (s : Bool) → MatchBool s (ShowsTables b base t 7 lists.parts) (lists.parts ≡ None) → 4 * tables_counted lists.parts ≡ (if s then 4 * count_in b t 7 else 0)
+  part_weight : (s : Bool) → ShowsReadTables s b base t 7 lists.parts → 4 * tables_counted lists.parts ≡ (if s then 4 * count_in b t 7 else 0)
   part_weight true there = ap (λ n. 4 * n) (tables_same b base t 7 lists.parts there)
   part_weight false none = ap (λ o. 4 * tables_counted o) none
 
@@ -106,7 +105,7 @@ module _ (k : ℕ) (b : List ℕ) (base t : ℕ) (lists : Lists) (shows : ShowsL
         → Judges base (BreaksThere k points b t (has_rings k) (BreaksRings points) 0) (λ _. ⊤) r
     ends_judged r judged = judged_there 4 b base t 0 k points (has_rings k) (BreaksRings points) (λ _ _. ⊤) lists.ends r shows.ends judged
 
-    pub count_judged : (f : ℕ) (o : Option VecView) → MatchBool (has_points k) (ShowsVector 8 b base t f o) (o ≡ None) → (r : Result (Unit {0}) Broken) → JudgesSome (BreaksCount points) (λ _ _. ⊤) o r
+    pub count_judged : (f : ℕ) (o : Option VecView) → ShowsRead (has_points k) 8 b base t f o → (r : Result (Unit {0}) Broken) → JudgesSome (BreaksCount points) (λ _ _. ⊤) o r
         → Judges base (BreaksThere k points b t (has_points k) (BreaksCount points) f) (λ _. ⊤) r
     count_judged f o there r judged = judged_there 8 b base t f k points (has_points k) (BreaksCount points) (λ _ _. ⊤) o r there judged
 

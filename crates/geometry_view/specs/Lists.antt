@@ -1,5 +1,5 @@
 -- What a geometry's table leads to by itself: its vectors and its list of parts, and what is broken in them.
-use Rattle.std.specs.Prelude.{◌≡◌, ◌⊎◌, ℕ, ◌+◌, ◌*◌, ◌<◌, ◌≤◌, List, [], ◌∷◌, ◌++◌, if◌then◌else◌, true, false, IsTrue, Option, None, Result, MatchBool, MatchResult}
+use Rattle.std.specs.Prelude.{◌≡◌, ◌⊎◌, ℕ, ◌+◌, ◌*◌, ◌<◌, ◌≤◌, List, [], ◌∷◌, ◌++◌, if◌then◌else◌, true, false, IsTrue, Option, Result, MatchResult}
 use Rattle.std.specs.List.{All}
 use Rattle.std.specs.Option.{ForSome}
 use Rattle.flat_layout.specs.declared.Rule.{Rule}
@@ -10,13 +10,13 @@ use Rattle.flat_layout.specs.Promises.{BreaksVector, BreaksTo, IsClean, Names}
 use Rattle.order_keys.specs.Keys.{is_finite}
 use Rattle.flat_views.specs.declared.meter.Meter.{Meter}
 use Rattle.flat_views.specs.declared.vectors.VecView.{VecView}
-use Rattle.flat_views.specs.Vectors.{vector_bytes, vector_place, ShowsVector}
-use Rattle.flat_views.specs.TableVecs.{ShowsTables}
+use Rattle.flat_views.specs.declared.vectors.TableVec.{TableVec}
+use Rattle.flat_views.specs.Vectors.{vector_bytes, vector_place}
 use Rattle.flat_views.specs.Meters.{left_of, meter_place}
 use Rattle.fgb_schema.specs.Tables.{has_points, has_rings, has_parts}
 use Rattle.fgb_schema.specs.Paths.{IsAmong, BreaksPairs, BreaksEnds, BreaksOrdinates, is_listed, count_in}
 use Rattle.geometry_view.specs.declared.lists.Lists.{Lists}
-use Rattle.geometry_view.specs.Fits.{counted, tables_counted}
+use Rattle.geometry_view.specs.Fits.{counted, tables_counted, ShowsRead, ShowsReadTables}
 
 -- the fields of a geometry of this type that lead to a vector, and the bytes of each element
 abbrev pub vectors_of : ℕ → List (ℕ × ℕ)
@@ -50,13 +50,13 @@ weight_of kind b t =
 
 -- the vectors that the table at t leads to, none where its type has no such vector
 pub record ShowsLists (kind : ℕ) (b : List ℕ) (base t : ℕ) (lists : Lists) : Type 0 where
-  pub ends : MatchBool (has_rings kind) (ShowsVector 4 b base t 0 lists.ends) (lists.ends ≡ None)
-  pub xy : MatchBool (has_points kind) (ShowsVector 8 b base t 1 lists.xy) (lists.xy ≡ None)
-  pub z : MatchBool (has_points kind) (ShowsVector 8 b base t 2 lists.z) (lists.z ≡ None)
-  pub m : MatchBool (has_points kind) (ShowsVector 8 b base t 3 lists.m) (lists.m ≡ None)
-  pub t' : MatchBool (has_points kind) (ShowsVector 8 b base t 4 lists.t) (lists.t ≡ None)
-  pub tm : MatchBool (has_points kind) (ShowsVector 8 b base t 5 lists.tm) (lists.tm ≡ None)
-  pub parts : MatchBool (has_parts kind) (ShowsTables b base t 7 lists.parts) (lists.parts ≡ None)
+  pub ends : ShowsRead (has_rings kind) 4 b base t 0 lists.ends
+  pub xy : ShowsRead (has_points kind) 8 b base t 1 lists.xy
+  pub z : ShowsRead (has_points kind) 8 b base t 2 lists.z
+  pub m : ShowsRead (has_points kind) 8 b base t 3 lists.m
+  pub t' : ShowsRead (has_points kind) 8 b base t 4 lists.t
+  pub tm : ShowsRead (has_points kind) 8 b base t 5 lists.tm
+  pub parts : ShowsReadTables (has_parts kind) b base t 7 lists.parts
 
 -- what lists weigh with the table that leads to them
 abbrev pub weight_shown : Lists → ℕ
@@ -70,10 +70,10 @@ abbrev pub AreFinite : Option VecView → Type 0
 AreFinite xy = ForSome xy (λ xy. All (λ x. IsTrue (is_finite x)) (longs (vector_bytes xy) (vector_place xy)))
 
 -- reading the table at t by itself under a meter, with this type: Ok exactly where nothing is broken in it and the
--- meter has its own weight, which is then taken off; a refusal names what is broken, or Weight where its vectors are
--- sound
-abbrev pub GoesOwn : ℕ → ℕ → List ℕ → ℕ → Meter → Meter → Result Lists Broken → Type 0
+-- meter has its own weight, which is then taken off, with its list of parts; a refusal names what is broken, or Weight
+-- where its vectors are sound
+abbrev pub GoesOwn : ℕ → ℕ → List ℕ → ℕ → Meter → Meter → Result (Option TableVec) Broken → Type 0
 GoesOwn kind base b t before after result =
     MatchResult result
-    (λ lists. ShowsLists kind b base t lists × IsClean (BreaksOwn kind b t) × AreFinite lists.xy × (left_of after + weight_of kind b t ≡ left_of before))
+    (λ parts. ShowsReadTables (has_parts kind) b base t 7 parts × IsClean (BreaksOwn kind b t) × (left_of after + weight_of kind b t ≡ left_of before))
     (λ e. (Names base (BreaksOwn kind b t) e ⊎ (IsClean (BreaksVectors kind b t) × (left_of before < weight_of kind b t) × (e.place ≡ meter_place before) × (e.rule ≡ Weight))) × (left_of after ≤ left_of before))

@@ -1,39 +1,42 @@
-ghost use Rattle.std.specs.Prelude.{◌≡◌, ◌≢◌, ◌+◌, ◌-◌, ◌≤◌, ◌<◌, [], length, slice_get, option_map, unwrap_or, Some, All, true, IsTrue, MatchOption};
+ghost use Rattle.std.specs.Prelude.{◌≡◌, ◌≢◌, ◌+◌, ◌-◌, ◌≤◌, ◌<◌, [], length, slice_get, Some, All, IsTrue, MatchOption};
 ghost use Rattle.std.specs.Option.{ForSome};
 ghost use Rattle.flat_layout.specs.Layout.{count, entry_place, longs, target};
 ghost use Rattle.flat_layout.specs.Promises.{IsClean};
 ghost use Rattle.flat_views.specs.TableVecs.{tables_bytes, tables_place};
-ghost use Rattle.flat_views.specs.Tables.{bytes_of, place_of};
+ghost use Rattle.flat_views.specs.Tables.{base_of, bytes_of, place_of};
 ghost use Rattle.flat_views.specs.Vectors.{longs_shown, vector_bytes, vector_place, vector_width};
+ghost use Rattle.order_keys.specs.Boxes.{IsBox};
 ghost use Rattle.order_keys.specs.Keys.{is_finite};
-ghost use Rattle.fgb_schema.specs.Tables.{geometry as geometry_name, tables as tables_thing, is_kind, part_type, type_of};
-ghost use Rattle.fgb_schema.specs.Paths.{Breaks, BreaksType, geometry_part, thing};
-ghost use Rattle.fgb_schema.specs.Shapes.{shape_at};
+ghost use Rattle.fgb_schema.specs.Tables.{geometry as geometry_name, tables as tables_thing, has_points, part_type};
+ghost use Rattle.fgb_schema.specs.Paths.{Breaks, geometry_part, thing};
+ghost use Rattle.fgb_schema.specs.Shapes.{box_of_points, pairs_of, shape_at};
+ghost use Rattle.geometry_view.specs.Fits.{ShowsRead};
 ghost use Rattle.geometry_view.specs.Kinds.{number_of};
+ghost use Rattle.geometry_view.specs.Lists.{AreFinite};
 
 use crate::kind::{Kind, Ordinate};
-use crate::lists::{Lists, TYPE};
+use crate::lists::{ENDS, PARTS, XY, tables_if, vector_if};
+use crate::read::{kind_under, type_of_parts};
 use flat_views::{Table, TableVec, VecView};
 use order_keys::{Bounds, Coord};
 
 /// A geometry, the whole tree of which was read and breaks no rule. (FlatGeobuf, feature.fbs, Geometry)
+///
+/// It keeps its table alone, and reads a vector again when it is asked for.
 #[derive(Clone, Copy)]
 pub struct GeometryView<'a> {
+    pub(crate) table: Table<'a>,
     pub(crate) kind: Kind,
     pub(crate) depth: u8,
-    pub(crate) lists: Lists<'a>,
     pub ghost deep: { 1 ≤ depth },
     pub ghost shallow: { depth ≤ 16 },
-    // so the box of its points is the join of theirs
-    pub ghost finite: { ForSome lists.xy (λ xy. All (λ x. IsTrue (is_finite x)) (longs (vector_bytes xy) (vector_place xy))) },
-    // so the parts can be read again
-    pub ghost clean: { ForSome lists.parts (λ tables. IsClean (Breaks (tables_bytes tables) (thing (tables_thing (geometry_name (part_type (number_of kind)) (depth + 1))) (tables_place tables)))) },
+    // so each vector can be read again, and each part
+    pub ghost clean: { IsClean (Breaks (bytes_of table) (geometry_part (number_of kind) depth (place_of table))) },
 }
 
 impl<'a> GeometryView<'a> {
-    ghost use Rattle.order_keys.specs.Boxes.{IsBox};
-    ghost use Rattle.fgb_schema.specs.Shapes.{box_of_points, ordinates_in, parts_in, points as points_of, points_in, rings_in, type_in};
-    ghost use Rattle.geometry_view.specs.Views.{geometry_shown, listed};
+    ghost use Rattle.fgb_schema.specs.Shapes.{ordinates_in, parts_in, points as points_of, points_in, rings_in, type_in};
+    ghost use Rattle.geometry_view.specs.Views.{geometry_shown, listed, parts_shown, rings_shown};
 
     /// The type that holds for it.
     pub fn kind(&self) -> Kind
@@ -46,7 +49,7 @@ impl<'a> GeometryView<'a> {
     pub fn points(&self) -> usize
         ensures { result ≡ length (points_in (geometry_shown self.now)) }
     {
-        match self.lists.xy {
+        match self.pairs() {
             Some(xy) => xy.len() / 2,
             None => 0,
         }
@@ -59,8 +62,8 @@ impl<'a> GeometryView<'a> {
         ensures finite_x { IsTrue (is_finite result.0.0) }
         ensures finite_y { IsTrue (is_finite result.1.0) }
     {
-        match self.lists.xy {
-            Some(xy) => (Coord(xy.at_u64(2 * i)), Coord(xy.at_u64(2 * i + 1))),
+        match self.pairs() {
+            Some(xy) => pair_at(xy, i),
             None => unreachable!(),
         }
     }
@@ -70,12 +73,7 @@ impl<'a> GeometryView<'a> {
         ensures { let numbers = listed which (ordinates_in (geometry_shown self.now)) in
             MatchOption result (numbers ≡ []) (λ v. (longs_shown result ≡ numbers) × (numbers ≢ []) × (vector_width v ≡ 8)) }
     {
-        match which {
-            Ordinate::Z => filled(self.lists.z),
-            Ordinate::M => filled(self.lists.m),
-            Ordinate::T => filled(self.lists.t),
-            Ordinate::Tm => filled(self.lists.tm),
-        }
+        filled(self.numbers(which.field()))
     }
 
     /// How many rings it has. Where no ends are given, all its points are one.
@@ -85,7 +83,7 @@ impl<'a> GeometryView<'a> {
         if !self.kind.has_rings() {
             return 0;
         }
-        match filled(self.lists.ends) {
+        match filled(self.ends()) {
             Some(ends) => ends.len(),
             None if self.points() > 0 => 1,
             None => 0,
@@ -97,7 +95,7 @@ impl<'a> GeometryView<'a> {
         requires { i < length (rings_in (geometry_shown self.now)) }
         ensures { slice_get (rings_in (geometry_shown self.now)) i ≡ Some result }
     {
-        let Some(ends) = filled(self.lists.ends) else {
+        let Some(ends) = filled(self.ends()) else {
             return (0, self.points());
         };
         let first = if i == 0 {
@@ -112,7 +110,7 @@ impl<'a> GeometryView<'a> {
     pub fn parts(&self) -> usize
         ensures { result ≡ length (parts_in (geometry_shown self.now)) }
     {
-        match self.lists.parts {
+        match self.tables() {
             Some(tables) => tables.len(),
             None => 0,
         }
@@ -124,11 +122,11 @@ impl<'a> GeometryView<'a> {
         ensures shape { slice_get (parts_in (geometry_shown self.now)) i ≡ Some (geometry_shown result) }
         ensures deeper { result.depth ≡ self.now.depth + 1 }
     {
-        match self.lists.parts {
+        match self.tables() {
             Some(tables) => GeometryView::sound_part(
                 tables,
                 i,
-                part_kind(self.kind),
+                type_of_parts(self.kind),
                 self.depth + 1,
             ),
             None => unreachable!(),
@@ -149,52 +147,117 @@ impl<'a> GeometryView<'a> {
     }
 
     /// The box of its own points.
-    #[inline(always)]
     fn own_bounds(&self) -> Bounds
         ensures value { result ≡ box_of_points (points_in (geometry_shown self.now)) }
         ensures sound { IsBox result }
     {
-        let mut bounds = Bounds::empty();
-        for i in 0..self.points() {
-            let (x, y) = self.xy(i);
-            bounds = bounds.join(Bounds::of_point(x, y));
+        match self.pairs() {
+            Some(xy) => box_of_pairs(xy),
+            None => Bounds::empty(),
         }
-        bounds
     }
 
-    /// The geometry of the i-th entry of a list that breaks no rule.
-    fn sound_part(
-        tables: TableVec<'a>,
-        i: usize,
-        given: Option<Kind>,
-        depth: u8,
-    ) -> GeometryView<'a>
+    /// The vector of its points, x and y by turns.
+    fn pairs(&self) -> Option<VecView<'a>>
+        ensures points { pairs_of (longs_shown result) ≡ points_in (geometry_shown self.now) }
+        ensures wide { ForSome result (λ v. vector_width v ≡ 8) }
+        ensures finite { AreFinite result }
+    {
+        self.numbers(XY)
+    }
+
+    /// The vector of its points, or of some ordinates.
+    fn numbers(&self, field: u16) -> Option<VecView<'a>>
+        requires first { 1 ≤ field }
+        requires last { field ≤ 5 }
+        ensures shows { let table = self.now.table in
+            ShowsRead (has_points (number_of self.now.kind)) 8 (bytes_of table) (base_of table) (place_of table) field result }
+        ensures wide { ForSome result (λ v. vector_width v ≡ 8) }
+    {
+        match vector_if(self.kind.has_points(), self.table, field, 8) {
+            Ok(vector) => vector,
+            Err(_) => unreachable!(),
+        }
+    }
+
+    /// The vector of the ends of its rings.
+    fn ends(&self) -> Option<VecView<'a>>
+        ensures rings { let shape = geometry_shown self.now in
+            rings_in shape ≡ rings_shown (number_of self.now.kind) result (length (points_in shape)) }
+        ensures wide { ForSome result (λ v. vector_width v ≡ 4) }
+    {
+        match vector_if(self.kind.has_rings(), self.table, ENDS, 4) {
+            Ok(vector) => vector,
+            Err(_) => unreachable!(),
+        }
+    }
+
+    /// The list of its parts, which breaks no rule.
+    fn tables(&self) -> Option<TableVec<'a>>
+        ensures parts { parts_in (geometry_shown self.now) ≡ parts_shown (15 - self.now.depth) (part_type (number_of self.now.kind)) result }
+        ensures clean { let name = geometry_name (part_type (number_of self.now.kind)) (self.now.depth + 1) in
+            ForSome result (λ tables. IsClean (Breaks (tables_bytes tables) (thing (tables_thing name) (tables_place tables)))) }
+    {
+        match tables_if(self.kind.has_parts(), self.table, PARTS) {
+            Ok(tables) => tables,
+            Err(_) => unreachable!(),
+        }
+    }
+
+    /// The geometry of the i-th entry of a list that breaks no rule, to which this type is given from outside.
+    fn sound_part(tables: TableVec<'a>, i: usize, outer: u8, depth: u8) -> GeometryView<'a>
         requires early { i < count (tables_bytes tables) (tables_place tables) }
-        requires clean { IsClean (Breaks (tables_bytes tables) (thing (tables_thing (geometry_name (unwrap_or (option_map number_of given) 0) depth)) (tables_place tables))) }
+        requires clean { IsClean (Breaks (tables_bytes tables) (thing (tables_thing (geometry_name outer depth)) (tables_place tables))) }
         requires deep { 1 ≤ depth }
         ensures shape { let b = tables_bytes tables.entry in
-            geometry_shown result ≡ shape_at (16 - depth) (unwrap_or (option_map number_of given) 0) b (target b (entry_place b (tables_place tables.entry) i)) }
+            geometry_shown result ≡ shape_at (16 - depth) outer b (target b (entry_place b (tables_place tables.entry) i)) }
         ensures depth { result.depth ≡ depth }
     {
         match tables.get(i) {
-            Ok(table) => GeometryView::sound_geometry(table, given, depth),
+            Ok(table) => GeometryView::sound_geometry(table, outer, depth),
             Err(_) => unreachable!(),
         }
     }
 
-    /// The geometry of a table that breaks no rule.
-    fn sound_geometry(table: Table<'a>, given: Option<Kind>, depth: u8) -> GeometryView<'a>
-        requires clean { IsClean (Breaks (bytes_of table) (geometry_part (unwrap_or (option_map number_of given) 0) depth (place_of table))) }
+    /// The geometry of a table that breaks no rule, to which this type is given from outside.
+    fn sound_geometry(table: Table<'a>, outer: u8, depth: u8) -> GeometryView<'a>
+        requires clean { IsClean (Breaks (bytes_of table) (geometry_part outer depth (place_of table))) }
         requires deep { 1 ≤ depth }
-        ensures shape { geometry_shown result ≡ shape_at (16 - depth) (unwrap_or (option_map number_of given) 0) (bytes_of table.entry) (place_of table.entry) }
+        ensures shape { geometry_shown result ≡ shape_at (16 - depth) outer (bytes_of table.entry) (place_of table.entry) }
         ensures depth { result.depth ≡ depth }
     {
-        let kind = sound_kind(table, given);
-        match Lists::read(table, kind) {
-            Ok(lists) => GeometryView { kind, depth, lists },
+        match kind_under(table, outer) {
+            Ok(kind) => GeometryView { table, kind, depth },
             Err(_) => unreachable!(),
         }
     }
+}
+
+/// The box of the points of a vector.
+fn box_of_pairs(xy: VecView) -> Bounds
+    requires wide { vector_width xy ≡ 8 }
+    requires finite { All (λ x. IsTrue (is_finite x)) (longs (vector_bytes xy) (vector_place xy)) }
+    ensures value { result ≡ box_of_points (pairs_of (longs (vector_bytes xy.entry) (vector_place xy.entry))) }
+    ensures sound { IsBox result }
+{
+    let mut bounds = Bounds::empty();
+    for i in 0..xy.len() / 2 {
+        let (x, y) = pair_at(xy, i);
+        bounds = bounds.join(Bounds::of_point(x, y));
+    }
+    bounds
+}
+
+/// The i-th point of a vector.
+fn pair_at(xy: VecView, i: usize) -> (Coord, Coord)
+    requires wide { vector_width xy ≡ 8 }
+    requires finite { All (λ x. IsTrue (is_finite x)) (longs (vector_bytes xy) (vector_place xy)) }
+    requires early { i < length (pairs_of (longs (vector_bytes xy) (vector_place xy))) }
+    ensures point { slice_get (pairs_of (longs (vector_bytes xy.entry) (vector_place xy.entry))) i ≡ Some (result.0.0, result.1.0) }
+    ensures finite_x { IsTrue (is_finite result.0.0) }
+    ensures finite_y { IsTrue (is_finite result.1.0) }
+{
+    (Coord(xy.at_u64(2 * i)), Coord(xy.at_u64(2 * i + 1)))
 }
 
 /// The vector, if it is there and has elements.
@@ -205,33 +268,5 @@ fn filled<'a>(list: Option<VecView<'a>>) -> Option<VecView<'a>>
     match list {
         Some(vector) if vector.len() > 0 => Some(vector),
         _ => None,
-    }
-}
-
-/// The type that is given from outside to the parts of a geometry of this type, if any is.
-fn part_kind(kind: Kind) -> Option<Kind>
-    ensures { unwrap_or (option_map number_of result) 0 ≡ part_type (number_of kind) }
-{
-    match kind {
-        Kind::MultiPolygon => Some(Kind::Polygon),
-        _ => None,
-    }
-}
-
-/// The type that holds for a geometry whose type breaks no rule: the one given from outside, else its own.
-fn sound_kind(table: Table, given: Option<Kind>) -> Kind
-    requires readable { IsClean (BreaksType (unwrap_or (option_map number_of given) 0) (bytes_of table) (place_of table)) }
-    requires known { is_kind (type_of (unwrap_or (option_map number_of given) 0) (bytes_of table) (place_of table)) ≡ true }
-    ensures { number_of result ≡ type_of (unwrap_or (option_map number_of given) 0) (bytes_of table.entry) (place_of table.entry) }
-{
-    if let Some(kind) = given {
-        return kind;
-    }
-    let Ok(number) = table.scalar_u8(TYPE, 0) else {
-        unreachable!()
-    };
-    match Kind::of(number) {
-        Some(kind) => kind,
-        None => unreachable!(),
     }
 }

@@ -1,6 +1,8 @@
 ghost use Rattle.std.specs.Prelude.{◌≡◌, ◌==◌, false, MatchOption};
 ghost use Rattle.fgb_schema.specs.Tables.{has_parts, has_points, has_rings, is_kind};
-ghost use Rattle.geometry_view.specs.Kinds.{number_of};
+ghost use Rattle.geometry_view.specs.Kinds.{field_of, number_of};
+
+use crate::lists::{M, T, TM, Z};
 
 /// The type of a geometry. (FlatGeobuf, feature.fbs, GeometryType)
 #[derive(Clone, Copy, Debug, PartialEq, Eq)]
@@ -92,5 +94,19 @@ impl Kind {
         ensures { result ≡ has_parts (number_of self) }
     {
         matches!(self, Kind::MultiPolygon | Kind::GeometryCollection)
+    }
+}
+
+impl Ordinate {
+    /// The field of the schema that leads to it.
+    pub(crate) fn field(self) -> u16
+        ensures { result ≡ field_of self }
+    {
+        match self {
+            Ordinate::Z => Z,
+            Ordinate::M => M,
+            Ordinate::T => T,
+            Ordinate::Tm => TM,
+        }
     }
 }

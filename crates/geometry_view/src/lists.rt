@@ -1,38 +1,36 @@
-ghost use Rattle.std.specs.Prelude.{◌≡◌, ◌⊎◌, ◌+◌, ◌*◌, ◌/◌, ◌<◌, ◌≤◌, ◌^◌, true, Some, None, IsTrue, ⊤};
-ghost use Rattle.std.specs.Bool.{MatchBool};
+ghost use Rattle.std.specs.Prelude.{◌≡◌, ◌⊎◌, ◌+◌, ◌*◌, ◌/◌, ◌<◌, ◌≤◌, ◌^◌, true, Some, IsTrue, ⊤};
 ghost use Rattle.std.specs.List.{All};
 ghost use Rattle.std.specs.Option.{ForSome};
 ghost use Rattle.flat_layout.specs.Layout.{count, longs};
 ghost use Rattle.flat_layout.specs.Promises.{Judges};
-ghost use Rattle.flat_views.specs.TableVecs.{ShowsTables};
 ghost use Rattle.flat_views.specs.Tables.{base_of, bytes_of, place_of};
-ghost use Rattle.flat_views.specs.Vectors.{ShowsVector, vector_base, vector_bytes, vector_place, vector_width};
+ghost use Rattle.flat_views.specs.Vectors.{vector_base, vector_bytes, vector_place, vector_width};
 ghost use Rattle.order_keys.specs.Keys.{is_finite};
 ghost use Rattle.fgb_schema.specs.Paths.{BreaksPairs};
-ghost use Rattle.geometry_view.specs.Fits.{counted, tables_counted, BreaksCount, BreaksFinite, BreaksRead, BreaksRings, JudgesSome};
+ghost use Rattle.geometry_view.specs.Fits.{counted, tables_counted, BreaksCount, BreaksFinite, BreaksRead, BreaksRings, JudgesSome, ShowsRead, ShowsReadTables};
 ghost use Rattle.geometry_view.specs.Kinds.{number_of};
 
 use crate::kind::Kind;
-use flat_views::{Broken, Meter, Rule, Table, TableVec, VecView};
+use flat_views::{Broken, Rule, Table, TableVec, VecView};
 use order_keys::Coord;
 
 /// The fields of the schema (FlatGeobuf, feature.fbs, table Geometry).
-const ENDS: u16 = 0;
+pub(crate) const ENDS: u16 = 0;
 
-const XY: u16 = 1;
+pub(crate) const XY: u16 = 1;
 
-const Z: u16 = 2;
+pub(crate) const Z: u16 = 2;
 
-const M: u16 = 3;
+pub(crate) const M: u16 = 3;
 
-const T: u16 = 4;
+pub(crate) const T: u16 = 4;
 
-const TM: u16 = 5;
+pub(crate) const TM: u16 = 5;
 
 /// Read only where it decides.
 pub(crate) const TYPE: u16 = 6;
 
-const PARTS: u16 = 7;
+pub(crate) const PARTS: u16 = 7;
 
 /// The vectors of a geometry and its list of parts, each absent where its type does not have it.
 #[derive(Clone, Copy)]
@@ -56,27 +54,7 @@ pub(crate) struct Lists<'a> {
 impl<'a> Lists<'a> {
     ghost use Rattle.std.specs.Prelude.{IfOk};
     ghost use Rattle.flat_layout.specs.Promises.{IsClean};
-    ghost use Rattle.flat_views.specs.Meters.{meter_place};
-    ghost use Rattle.geometry_view.specs.Lists.{AreFinite, BreaksFit, BreaksVectors, GoesOwn, ShowsLists, weight_shown};
-
-    /// The lists of the table of a geometry of this type, judged by themselves, under a meter, which then has
-    /// less by what the table and its vectors weigh. Refuses Field, Offset, Vector, PairCount, PointCount,
-    /// NotFinite, Ends or Ordinates, or Weight at the meter's place; the meter then has at most what it had.
-    #[inline(always)]
-    pub(crate) fn own_level(
-        table: Table<'a>,
-        kind: Kind,
-        meter: &mut Meter,
-    ) -> Result<Lists<'a>, Broken>
-        ensures goes { GoesOwn (number_of kind) (base_of table.entry) (bytes_of table.entry) (place_of table.entry) meter.old meter.new result }
-        ensures place { meter_place meter.new ≡ meter_place meter.old }
-    {
-        let lists = Lists::read(table, kind)?;
-        // before the elements are gone over, which many geometries may share
-        meter.spend(lists.weight())?;
-        lists.judge(table, kind)?;
-        Ok(lists)
-    }
+    ghost use Rattle.geometry_view.specs.Lists.{AreFinite, BreaksFit, BreaksVectors, ShowsLists, weight_shown};
 
     /// The lists that the table of a geometry of this type leads to. Refuses Field, Offset or Vector.
     #[inline(always)]
@@ -115,7 +93,7 @@ impl<'a> Lists<'a> {
 
     /// What the table and its vectors weigh, without the parts themselves.
     #[inline(always)]
-    fn weight(self) -> u64
+    pub(crate) fn weight(self) -> u64
         ensures { result ≡ weight_shown self.entry }
     {
         let ordinates = size_of(self.z, 8)
@@ -146,7 +124,7 @@ impl<'a> Lists<'a> {
 
 /// The vector that a field leads to, where the field is read at all. Refuses Field, Offset or Vector.
 #[inline(always)]
-fn vector_if<'a>(
+pub(crate) fn vector_if<'a>(
     is_read: bool,
     table: Table<'a>,
     field: u16,
@@ -154,7 +132,7 @@ fn vector_if<'a>(
 ) -> Result<Option<VecView<'a>>, Broken>
     requires { (width ≡ 4) ⊎ (width ≡ 8) }
     ensures { let b = bytes_of table.entry in let t = place_of table.entry in let base = base_of table.entry in
-        Judges base (BreaksRead is_read width b t field) (λ v. MatchBool is_read (ShowsVector width b base t field v) (v ≡ None)) result }
+        Judges base (BreaksRead is_read width b t field) (ShowsRead is_read width b base t field) result }
 {
     if is_read {
         table.vector(field, width)
@@ -166,13 +144,13 @@ fn vector_if<'a>(
 /// The vector of tables that a field leads to, where the field is read at all. Refuses Field, Offset or
 /// Vector.
 #[inline(always)]
-fn tables_if<'a>(
+pub(crate) fn tables_if<'a>(
     is_read: bool,
     table: Table<'a>,
     field: u16,
 ) -> Result<Option<TableVec<'a>>, Broken>
     ensures { let b = bytes_of table.entry in let t = place_of table.entry in let base = base_of table.entry in
-        Judges base (BreaksRead is_read 4 b t field) (λ v. MatchBool is_read (ShowsTables b base t field v) (v ≡ None)) result }
+        Judges base (BreaksRead is_read 4 b t field) (ShowsReadTables is_read b base t field) result }
 {
     if is_read {
         table.tables(field)

@@ -1,4 +1,4 @@
-ghost use Rattle.std.specs.Prelude.{◌≡◌, ◌⊎◌, ◌&&◌, ◌+◌, ◌*◌, ◌-◌, ◌<◌, ◌≤◌, ⊤};
+ghost use Rattle.std.specs.Prelude.{◌≡◌, ◌⊎◌, ◌&&◌, ◌+◌, ◌*◌, ◌-◌, ◌<◌, ◌≤◌, IfOk, ⊤};
 ghost use Rattle.flat_layout.specs.Layout.{count, entry_place, is_table};
 ghost use Rattle.flat_layout.specs.Promises.{Judges};
 ghost use Rattle.flat_views.specs.Meters.{left_of, meter_place};
@@ -9,6 +9,7 @@ ghost use Rattle.fgb_schema.specs.Paths.{BreaksType, Forbids, geometry_part, off
 ghost use Rattle.fgb_schema.specs.Shapes.{shape_at};
 ghost use Rattle.fgb_schema.specs.Weights.{Goes};
 ghost use Rattle.geometry_view.specs.Kinds.{number_of};
+ghost use Rattle.geometry_view.specs.Lists.{GoesOwn};
 ghost use Rattle.geometry_view.specs.Views.{geometry_shown};
 
 use crate::geometry::GeometryView;
@@ -40,19 +41,18 @@ impl<'a> GeometryView<'a> {
         ensures goes { let b = bytes_of table.entry in let t = place_of table.entry in
             Goes (base_of table.entry) b (geometry_part (number_of kind) depth t) (meter_place meter.old) (left_of meter.old) (left_of meter.new)
             (λ g. geometry_shown g ≡ shape_at (16 - depth) (number_of kind) b t) result }
+        ensures depth { IfOk result (λ g. g.depth ≡ depth) }
         ensures place { meter_place meter.new ≡ meter_place meter.old }
     {
-        let lists = Lists::own_level(table, kind, meter)?;
-        if let Some(parts) = lists.parts {
-            GeometryView::read_parts(parts, kind, depth, meter)?;
-        }
-        Ok(GeometryView { kind, depth, lists })
+        GeometryView::read_tree(table, kind, depth, meter)?;
+        Ok(GeometryView { table, kind, depth })
     }
 
     /// The geometry in a table, to which this type is given from outside, 0 where its own type field
     /// decides: the header's type for the geometry of a feature. Else as `read`; it refuses Depth at the
     /// table too, before it reads anything of it, and Field or Kind for the type that holds.
     #[cycle(tree)]
+    #[inline(always)]
     pub fn read_under(
         table: Table<'a>,
         outer: u8,
@@ -63,6 +63,7 @@ impl<'a> GeometryView<'a> {
         ensures goes { let b = bytes_of table.entry in let t = place_of table.entry in
             Goes (base_of table.entry) b (geometry_part outer depth t) (meter_place meter.old) (left_of meter.old) (left_of meter.new)
             (λ g. geometry_shown g ≡ shape_at (16 - depth) outer b t) result }
+        ensures depth { IfOk result (λ g. g.depth ≡ depth) }
         ensures place { meter_place meter.new ≡ meter_place meter.old }
     {
         if depth > MAX_DEPTH {
@@ -73,6 +74,20 @@ impl<'a> GeometryView<'a> {
         }
         let kind = kind_under(table, outer)?;
         GeometryView::read(table, kind, depth, meter)
+    }
+
+    /// Reads as `read`, and gives no view. A small answer costs less to hand on than a view beside a refusal.
+    #[cycle(tree)]
+    fn read_tree(table: Table, kind: Kind, depth: u8, meter: &mut Meter) -> Result<(), Broken>
+        requires { depth ≤ 16 }
+        ensures goes { let b = bytes_of table.entry in let t = place_of table.entry in
+            Goes (base_of table.entry) b (geometry_part (number_of kind) depth t) (meter_place meter.old) (left_of meter.old) (left_of meter.new) (λ _. ⊤) result }
+        ensures place { meter_place meter.new ≡ meter_place meter.old }
+    {
+        match own_level(table, kind, meter)? {
+            Some(parts) => GeometryView::read_parts(parts, kind, depth, meter),
+            None => Ok(()),
+        }
     }
 
     /// Reads the parts of a geometry of this type at this depth, under a meter that has spent the weight
@@ -117,9 +132,28 @@ impl<'a> GeometryView<'a> {
     }
 }
 
+/// Reads the table of a geometry of this type by itself, under a meter, which then has less by what the table
+/// and its vectors weigh, and gives its list of parts. Refuses Field, Offset, Vector, PairCount, PointCount,
+/// NotFinite, Ends or Ordinates, or Weight at the meter's place; the meter then has at most what it had.
+#[inline(always)]
+fn own_level<'a>(
+    table: Table<'a>,
+    kind: Kind,
+    meter: &mut Meter,
+) -> Result<Option<TableVec<'a>>, Broken>
+    ensures goes { GoesOwn (number_of kind) (base_of table.entry) (bytes_of table.entry) (place_of table.entry) meter.old meter.new result }
+    ensures place { meter_place meter.new ≡ meter_place meter.old }
+{
+    let lists = Lists::read(table, kind)?;
+    // before the elements are gone over, which many geometries may share
+    meter.spend(lists.weight())?;
+    lists.judge(table, kind)?;
+    Ok(lists.parts)
+}
+
 /// The type that holds for the geometry in a table, to which this type is given from outside. Refuses
 /// Field, where its own type field decides, or Kind at the table.
-fn kind_under(table: Table, outer: u8) -> Result<Kind, Broken>
+pub(crate) fn kind_under(table: Table, outer: u8) -> Result<Kind, Broken>
     ensures { let b = bytes_of table.entry in let t = place_of table.entry in
         Judges (base_of table.entry)
         (λ q r. BreaksType outer b t q r

@@ -1,4 +1,4 @@
-use Rattle.fgb_file.proofs.Walk.{file_sound, files_same}
+use Rattle.fgb_file.proofs.Passing.{file_sound, files_same}
 use Rattle.fgb_file.proofs.Valid.{valid_file}
 use Rattle.fgb_file.proofs.files_are_features.Goals as goal
 
@@ -6,7 +6,7 @@ pub returns-clause-whole : goal.returns-clause-whole
 returns-clause-whole c = λ image valid. valid_file image valid
 
 pub returns-clause-sound : goal.returns-clause-sound
-returns-clause-sound c = λ image pieces file. file_sound image pieces file
+returns-clause-sound c = λ image pieces file. file_sound image file
 
 pub returns-clause-one : goal.returns-clause-one
-returns-clause-one c = λ image pieces others file other. files_same image pieces others file other
+returns-clause-one c = λ image pieces others file other. files_same image file other

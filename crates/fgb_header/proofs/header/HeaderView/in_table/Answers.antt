@@ -21,13 +21,13 @@ pub returns-in_err-columns : goal.returns-in_err-columns
 returns-in_err-columns c =
     let own = c.in_ok-own.own in let read = c.in_ok-own.ensures in let spent = c.in_ok-spend.ensures.ok in
     exit _ _ _ _ c.from_residual-in_err-columns.ensures.1
-    (columns_refused (bytes_of c.args.table) (place_of c.args.table) read.1 c.args.table.sound own read.0 _ _ _ _ (left_of c.spend.new.self) _ _ spent.same_place (omega (arith, spent.taken, c.weight.ensures)) c.in_err-columns.ensures)
+    (columns_refused (bytes_of c.args.table) (place_of c.args.table) read.1 c.args.table.sound own read.0 _ _ _ _ (left_of c.spend.new.self) _ _ spent.same_place (omega (arith, spent.taken, c.weight.ensures)) c.in_err-columns.ensures.goes)
 
 pub returns : goal.returns
 returns c =
     let b = bytes_of c.args.table in let t = place_of c.args.table in
     let own = c.in_ok-own.own in let read = c.in_ok-own.ensures in
-    let columns = c.in_ok-columns.ensures in (
+    let columns = c.in_ok-columns.ensures.goes in (
       header_is b t own c.in_ok-columns.columns read.0 columns.0,
       header_clean b t c.args.table.sound read.1 columns.1,
       header_paid b t read.1 c.args.table.sound own read.0 _ (left_of c.spend.new.self) _ (omega (arith, c.in_ok-spend.ensures.ok.taken, c.weight.ensures)) columns.2,

@@ -1,4 +1,4 @@
-use Rattle.std.proofs.Common.{◌≡◌, inl, ◌+◌, ◌*◌, sym, refl, subst, ◌∙◌, arith}
+use Rattle.std.proofs.Common.{◌≡◌, inl, ◌+◌, ◌*◌, refl, subst, ◌∙◌, arith}
 use Rattle.flat_layout.specs.Layout.{count, entry_place, target}
 use Rattle.flat_layout.specs.Promises.{IsClean}
 use Rattle.flat_layout.proofs.Judging.{exit, names-weaker}
@@ -12,52 +12,33 @@ use Rattle.fgb_schema.specs.Weights.{IsPaid}
 use Rattle.fgb_schema.proofs.TablesParts.{entry_part}
 use Rattle.fgb_schema.proofs.TablesRead.{Refuses, AreRead, one_read, refuse_entry, all_read, refuse_table, refuse_behind, behind_clean, behind_paid}
 use Rattle.geometry_view.specs.Kinds.{number_of}
-use Rattle.geometry_view.proofs.Levels.{some_parts, no_parts, refuse_own, refuse_parts, whole_with, whole_alone, IsWhole}
-use Rattle.geometry_view.proofs.OwnType.{known_kind, some_kind, not_zero, goes_under, kind_breaks, deep_breaks}
-use Rattle.geometry_view.proofs.Showing.{lists_shown}
+use Rattle.geometry_view.proofs.Levels.{goes_alone, goes_with, refuse_own}
+use Rattle.geometry_view.proofs.OwnType.{known_kind, some_kind, goes_under, kind_breaks, deep_breaks}
 use Rattle.geometry_view.proofs.geometry.GeometryView.+tree.Goals as goal
-use Rattle.geometry_view.proofs.geometry.GeometryView.+tree.Goals.{read-in-Some+in_ok-read_parts, read-in_default}
 
-pub read-returns-in_err-lists-clause-goes : goal.read-returns-in_err-lists-clause-goes
-read-returns-in_err-lists-clause-goes t c = exit _ _ _ _ c.from_residual.ensures.1
-    (refuse_own (number_of c.args.kind) c.args.depth (base_of c.args.table) (bytes_of c.args.table) (place_of c.args.table) c.args.table.sound (known_kind c.args.kind)
-    (meter_place c.args.meter.now) (left_of c.args.meter.now) (left_of c.own_level.new.meter) _ c.in_err-lists.ensures.goes)
-
-pub read-returns-in_err-read_parts-clause-goes : goal.read-returns-in_err-read_parts-clause-goes
-read-returns-in_err-read_parts-clause-goes t c =
-    let own = c.in_ok-lists.ensures.goes in
-    exit _ _ _ _ c.from_residual-in_err-read_parts.ensures.1
-    (refuse_parts (number_of c.args.kind) c.args.depth (base_of c.args.table) (bytes_of c.args.table) (place_of c.args.table) c.args.table.sound (known_kind c.args.kind)
-    c.in_ok-lists.lists own.0 own.1 c.in-Some.parts c.in-Some.is (left_of c.args.meter.now) (left_of c.own_level.new.meter) (left_of c.read_parts.new.meter) own.3
-    (meter_place c.own_level.new.meter) (meter_place c.args.meter.now) _ c.in_ok-lists.ensures.place c.in_err-read_parts.ensures.goes)
-
-pub read-invariant_of-result : goal.read-invariant_of-result
-read-invariant_of-result t c = record {
-  deep = c.requires.deep;
-  shallow = c.requires.shallow;
-  finite = c.in_ok-lists.ensures.goes.2;
-  clean = elim c.match-lists.branch [
-    | read-in-Some+in_ok-read_parts w ↦ some_parts (number_of c.args.kind) c.args.depth c.in_ok-lists.lists.parts w.in-Some.parts w.in-Some.is w.in_ok-read_parts.ensures.goes.1
-    | read-in_default w ↦ no_parts (number_of c.args.kind) c.args.depth c.in_ok-lists.lists.parts w.in_default.is
-  ];
-}
+pub read-returns-in_err-read_tree-clause-goes : goal.read-returns-in_err-read_tree-clause-goes
+read-returns-in_err-read_tree-clause-goes t c = exit _ _ _ _ c.from_residual.ensures.1 c.in_err-read_tree.ensures.goes
 
 pub read-returns-clause-goes : goal.read-returns-clause-goes
-read-returns-clause-goes t c =
-    let own = c.in_ok-lists.ensures.goes in let k = number_of c.args.kind in let known = known_kind c.args.kind in
-    let base = base_of c.args.table in let b = bytes_of c.args.table in let p = place_of c.args.table in let sound = c.args.table.sound in
-    let before = left_of c.args.meter.now in let left = left_of c.own_level.new.meter in
-    let whole : IsWhole k c.args.depth b p c.in_ok-lists.lists before (left_of c.match-lists.meter) = elim c.match-lists.branch [
-      | read-in-Some+in_ok-read_parts w ↦ subst (λ m. IsWhole k c.args.depth b p c.in_ok-lists.lists before (left_of m)) (sym w.meter-is)
-          (whole_with k c.args.depth base b p sound known c.in_ok-lists.lists own.0 own.1 w.in-Some.parts w.in-Some.is before left (left_of w.read_parts.new.meter) own.3 c.requires.shallow
-          w.in_ok-read_parts.ensures.goes.1 w.in_ok-read_parts.ensures.goes.2)
-      | read-in_default w ↦ subst (λ m. IsWhole k c.args.depth b p c.in_ok-lists.lists before (left_of m)) (sym w.meter-is)
-          (whole_alone k c.args.depth base b p sound known c.in_ok-lists.lists own.0 own.1 before left c.requires.shallow own.3 w.in_default.is)
-    ] in (
-      lists_shown b k c.args.depth base p c.in_ok-lists.lists own.0 (not_zero k (some_kind c.args.kind)) c.requires.shallow whole.parts_sound,
-      whole.sound,
-      whole.paid,
-    )
+read-returns-clause-goes t c = let read = c.in_ok-read_tree.ensures.goes in (refl, read.1, read.2)
+
+pub read_tree-returns-in_err-parts-clause-goes : goal.read_tree-returns-in_err-parts-clause-goes
+read_tree-returns-in_err-parts-clause-goes t c = exit _ _ _ _ c.from_residual.ensures.1
+    (refuse_own (number_of c.args.kind) c.args.depth (base_of c.args.table) (bytes_of c.args.table) (place_of c.args.table) c.args.table.sound (known_kind c.args.kind)
+    (meter_place c.args.meter.now) (left_of c.args.meter.now) (left_of c.own_level.new.meter) _ c.in_err-parts.ensures.goes)
+
+pub read_tree-returns-in-Some-clause-goes : goal.read_tree-returns-in-Some-clause-goes
+read_tree-returns-in-Some-clause-goes t c =
+    let own = c.in_ok-parts.ensures.goes in
+    goes_with (number_of c.args.kind) c.args.depth (base_of c.args.table) (bytes_of c.args.table) (place_of c.args.table) c.args.table.sound (known_kind c.args.kind) c.requires
+    c.in_ok-parts.field-0 own.0 own.1 c.in-Some.parts c.in-Some.is (left_of c.args.meter.now) (left_of c.own_level.new.meter) (left_of c.read_parts.new.meter) own.2
+    (meter_place c.own_level.new.meter) (meter_place c.args.meter.now) c.in_ok-parts.ensures.place c.read_parts.result c.read_parts.ensures.goes
+
+pub read_tree-returns-in-None-clause-goes : goal.read_tree-returns-in-None-clause-goes
+read_tree-returns-in-None-clause-goes t c =
+    let own = c.in_ok-parts.ensures.goes in
+    goes_alone (number_of c.args.kind) c.args.depth (base_of c.args.table) (bytes_of c.args.table) (place_of c.args.table) c.args.table.sound (known_kind c.args.kind) c.requires
+    c.in_ok-parts.field-0 own.0 own.1 (meter_place c.args.meter.now) (left_of c.args.meter.now) (left_of c.own_level.new.meter) own.2 c.in-None.is
 
 pub read_parts-returns-in_err-read_part-clause-goes : goal.read_parts-returns-in_err-read_part-clause-goes
 read_parts-returns-in_err-read_part-clause-goes t c =

@@ -9,16 +9,19 @@ use Rattle.geometry_view.proofs.geometry.GeometryView.+tree.Given as goal
 
 -- the parts stand one deeper, and none deeper than 17 is gone into
 abbrev pub decreases-read : goal.decreases-read
-decreases-read l = 4 * (17 - l.depth) + 2
+decreases-read l = 5 * (17 - l.depth) + 3
+
+abbrev pub decreases-read_tree : goal.decreases-read_tree
+decreases-read_tree l = 5 * (17 - l.depth) + 2
 
 abbrev pub decreases-read_part : goal.decreases-read_part
-decreases-read_part l = 4 * (17 - l.depth)
+decreases-read_part l = 5 * (17 - l.depth)
 
 abbrev pub decreases-read_parts : goal.decreases-read_parts
-decreases-read_parts l = 4 * (17 - l.depth) + 1
+decreases-read_parts l = 5 * (17 - l.depth) + 1
 
 abbrev pub decreases-read_under : goal.decreases-read_under
-decreases-read_under l = 4 * (17 - l.depth) + 3
+decreases-read_under l = 5 * (17 - l.depth) + 4
 
 abbrev pub invariant-read_parts-loop-i : goal.invariant-read_parts-loop-i
 invariant-read_parts-loop-i l =

@@ -1,12 +1,15 @@
-use Rattle.std.proofs.Common.{ap, rules, ◌∙◌}
-use Rattle.order_keys.specs.Boxes.{join}
-use Rattle.fgb_schema.specs.Shapes.{points_in}
-use Rattle.geometry_view.specs.Views.{geometry_shown}
-use Rattle.geometry_view.proofs.OwnBoxes.{one_more}
+use Rattle.std.proofs.Common.{ap, refl, ◌∙◌}
+use Rattle.fgb_schema.specs.Shapes.{box_of_points}
 use Rattle.geometry_view.proofs.geometry.GeometryView.own_bounds.Goals as goal
 
-pub loop-i-preserved : goal.loop-i-preserved
-loop-i-preserved c =
-    let g = c.args.self.now in
-    one_more (points_in (geometry_shown g)) c.loop-i.i c.loop-i.bounds c.join-bounds.result c.xy.result.0 c.xy.result.1 c.xy.ensures.point (search rules) (search rules)
-    c.xy.ensures.finite_x c.xy.ensures.finite_y (c.join-bounds.ensures.value ∙ ap (join c.loop-i.bounds) c.of_point.ensures) c.loop-i.invariant
+pub box_of_pairs-requires-clause-wide : goal.box_of_pairs-requires-clause-wide
+box_of_pairs-requires-clause-wide c = c.in-Some.ensures.wide c.in-Some.xy refl
+
+pub box_of_pairs-requires-clause-finite : goal.box_of_pairs-requires-clause-finite
+box_of_pairs-requires-clause-finite c = c.in-Some.ensures.finite c.in-Some.xy refl
+
+pub returns-in-Some-clause-value : goal.returns-in-Some-clause-value
+returns-in-Some-clause-value c = c.box_of_pairs.ensures.value ∙ ap box_of_points c.in-Some.ensures.points
+
+pub returns-in-None-clause-value : goal.returns-in-None-clause-value
+returns-in-None-clause-value c = c.empty.ensures.value ∙ ap box_of_points c.in-None.ensures.points

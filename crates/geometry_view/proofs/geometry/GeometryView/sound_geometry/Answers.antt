@@ -1,35 +1,25 @@
-use Rattle.flat_views.specs.Tables.{base_of, bytes_of, place_of}
+use Rattle.std.proofs.Common.{◌-◌, inl, sym}
+use Rattle.flat_views.specs.Tables.{bytes_of, place_of}
 use Rattle.geometry_view.specs.Kinds.{number_of}
-use Rattle.geometry_view.proofs.OwnType.{clean_known, clean_shallow, clean_type}
-use Rattle.geometry_view.proofs.OwnKinds.{given_number}
-use Rattle.geometry_view.proofs.OwnShapes.{never_refused, shape_again, finite_again, clean_again}
+use Rattle.geometry_view.proofs.OwnType.{breaks_under, clean_shallow, kind_breaks, shape_under, some_kind}
 use Rattle.geometry_view.proofs.geometry.GeometryView.sound_geometry.Goals as goal
-
-pub sound_kind-kind-requires-clause-readable : goal.sound_kind-kind-requires-clause-readable
-sound_kind-kind-requires-clause-readable c = clean_type (given_number c.args.given) c.args.depth (bytes_of c.args.table) (place_of c.args.table) c.args.table.sound c.requires.clean
-
-pub sound_kind-kind-requires-clause-known : goal.sound_kind-kind-requires-clause-known
-sound_kind-kind-requires-clause-known c = clean_known (given_number c.args.given) c.args.depth (bytes_of c.args.table) (place_of c.args.table) c.args.table.sound c.requires.clean
 
 pub unreachable-requires : goal.unreachable-requires
 unreachable-requires c =
-    never_refused (given_number c.args.given) c.args.depth (bytes_of c.args.table) (base_of c.args.table) (place_of c.args.table) c.args.table.sound c.requires.clean
-    (number_of c.sound_kind-kind.result) c.sound_kind-kind.ensures c.in-Err.field-0 c.in-Err.ensures
+    let named = c.in-Err.ensures in
+    c.requires.clean named.0 c.in-Err.field-0.rule (kind_breaks c.args.outer c.args.depth (bytes_of c.args.table) (place_of c.args.table) c.args.table.sound named.0 c.in-Err.field-0.rule named.2)
 
 pub invariant_of-result : goal.invariant_of-result
 invariant_of-result c =
-    let shown = c.in-Ok.ensures in
+    let b = bytes_of c.args.table in let p = place_of c.args.table in let kind = c.in-Ok.kind in
     record {
       deep = c.requires.deep;
-      shallow = clean_shallow (given_number c.args.given) c.args.depth (bytes_of c.args.table) (place_of c.args.table) c.args.table.sound c.requires.clean;
-      finite = finite_again (given_number c.args.given) c.args.depth (bytes_of c.args.table) (base_of c.args.table) (place_of c.args.table) c.args.table.sound c.requires.clean
-          (number_of c.sound_kind-kind.result) c.sound_kind-kind.ensures c.in-Ok.lists shown.0;
-      clean = clean_again (given_number c.args.given) c.args.depth (bytes_of c.args.table) (base_of c.args.table) (place_of c.args.table) c.args.table.sound c.requires.clean
-          (number_of c.sound_kind-kind.result) c.sound_kind-kind.ensures c.in-Ok.lists shown.0;
+      shallow = clean_shallow c.args.outer c.args.depth b p c.args.table.sound c.requires.clean;
+      clean = λ q r broken. c.requires.clean q r
+          (breaks_under b p c.args.outer (number_of kind) c.args.depth c.args.table.sound c.in-Ok.ensures.0 (some_kind kind) (λ q r broken. c.in-Ok.ensures.1 q r (inl broken)) q r broken);
     }
 
 pub returns-clause-shape : goal.returns-clause-shape
 returns-clause-shape c =
-    let shown = c.in-Ok.ensures in
-    shape_again (given_number c.args.given) c.args.depth (bytes_of c.args.table) (base_of c.args.table) (place_of c.args.table) c.args.table.sound c.requires.clean
-    (number_of c.sound_kind-kind.result) c.sound_kind-kind.ensures c.in-Ok.lists shown.0
+    let kind = c.in-Ok.kind in
+    sym (shape_under (bytes_of c.args.table) (place_of c.args.table) c.args.outer (number_of kind) c.args.depth c.args.table.sound c.in-Ok.ensures.0 (some_kind kind) (λ q r broken. c.in-Ok.ensures.1 q r (inl broken)) (16 - c.args.depth))

@@ -8,24 +8,23 @@ use Rattle.fgb_schema.specs.Tables.{geometry}
 use Rattle.geometry_view.specs.Views.{geometry_shown}
 use Rattle.flat_views.proofs.Placed.{at_table, of_place, sound_list}
 use Rattle.fgb_schema.proofs.CleanEntries.{entry_named, entry_target}
-use Rattle.geometry_view.proofs.OwnKinds.{given_number}
 use Rattle.geometry_view.proofs.geometry.GeometryView.sound_part.Goals as goal
 
 pub sound_geometry-requires-clause-clean : goal.sound_geometry-requires-clause-clean
 sound_geometry-requires-clause-clean c =
     let b = tables_bytes c.args.tables in let v = tables_place c.args.tables in
     let there = c.in-Ok.ensures in
-    of_place (tables_base c.args.tables) b (target b (entry_place b v c.args.i)) c.in-Ok.table there.0 (λ _ s t. IsClean (Breaks s (geometry_part (given_number c.args.given) c.args.depth t)))
-    (entry_target b (geometry (given_number c.args.given) c.args.depth) v (sound_list c.args.tables) c.requires.clean c.args.i c.requires.early)
+    of_place (tables_base c.args.tables) b (target b (entry_place b v c.args.i)) c.in-Ok.table there.0 (λ _ s t. IsClean (Breaks s (geometry_part c.args.outer c.args.depth t)))
+    (entry_target b (geometry c.args.outer c.args.depth) v (sound_list c.args.tables) c.requires.clean c.args.i c.requires.early)
 
 pub unreachable-requires : goal.unreachable-requires
 unreachable-requires c =
-    entry_named (tables_bytes c.args.tables) (geometry (given_number c.args.given) c.args.depth) (tables_place c.args.tables) (sound_list c.args.tables) c.requires.clean c.args.i c.requires.early
+    entry_named (tables_bytes c.args.tables) (geometry c.args.outer c.args.depth) (tables_place c.args.tables) (sound_list c.args.tables) c.requires.clean c.args.i c.requires.early
     (tables_base c.args.tables) c.in-Err.field-0 c.in-Err.ensures
 
 pub returns-clause-shape : goal.returns-clause-shape
 returns-clause-shape c =
     let b = tables_bytes c.args.tables in let v = tables_place c.args.tables in
     let there = c.in-Ok.ensures in
-    at_table (tables_base c.args.tables) b (target b (entry_place b v c.args.i)) c.in-Ok.table there.0 (λ _ s t. geometry_shown c.sound_geometry.result ≡ shape_at (16 - c.args.depth) (given_number c.args.given) s t)
+    at_table (tables_base c.args.tables) b (target b (entry_place b v c.args.i)) c.in-Ok.table there.0 (λ _ s t. geometry_shown c.sound_geometry.result ≡ shape_at (16 - c.args.depth) c.args.outer s t)
     c.sound_geometry.ensures.shape

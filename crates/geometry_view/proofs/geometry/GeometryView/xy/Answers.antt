@@ -1,24 +1,18 @@
-use Rattle.std.proofs.Common.{arith}
-use Rattle.flat_views.proofs.Elements.{size_within}
-use Rattle.geometry_view.proofs.OwnNumbers.{point_some, point_early}
+use Rattle.std.proofs.Common.{◌<◌, length, ap, refl, subst, sym, ◌∙◌, arith}
+use Rattle.std.specs.Prelude.{slice_get}
 use Rattle.geometry_view.proofs.geometry.GeometryView.xy.Goals as goal
 
-pub overflow_mul-i : goal.overflow_mul-i
-overflow_mul-i c = omega (arith, size_within c.in-Some.xy 8 (c.args.self.now.lists.xy_wide c.in-Some.xy c.in-Some.is), point_early c.args.self.now.lists.xy c.in-Some.xy c.args.i c.in-Some.is c.requires)
+pub pair_at-requires-clause-wide : goal.pair_at-requires-clause-wide
+pair_at-requires-clause-wide c = c.in-Some.ensures.wide c.in-Some.xy refl
 
-pub at_u64-requires-clause-index : goal.at_u64-requires-clause-index
-at_u64-requires-clause-index c = omega (arith, point_early c.args.self.now.lists.xy c.in-Some.xy c.args.i c.in-Some.is c.requires)
+pub pair_at-requires-clause-finite : goal.pair_at-requires-clause-finite
+pair_at-requires-clause-finite c = c.in-Some.ensures.finite c.in-Some.xy refl
 
-pub overflow_mul-i-in-Some : goal.overflow_mul-i-in-Some
-overflow_mul-i-in-Some c = omega (arith, size_within c.in-Some.xy 8 (c.args.self.now.lists.xy_wide c.in-Some.xy c.in-Some.is), point_early c.args.self.now.lists.xy c.in-Some.xy c.args.i c.in-Some.is c.requires)
+pub pair_at-requires-clause-early : goal.pair_at-requires-clause-early
+pair_at-requires-clause-early c = subst (λ ps. c.args.i < length ps) (sym c.in-Some.ensures.points) c.requires
 
-pub overflow_add-i : goal.overflow_add-i
-overflow_add-i c = omega (arith, size_within c.in-Some.xy 8 (c.args.self.now.lists.xy_wide c.in-Some.xy c.in-Some.is), point_early c.args.self.now.lists.xy c.in-Some.xy c.args.i c.in-Some.is c.requires)
-
-pub at_u64-requires-in-Some-clause-index : goal.at_u64-requires-in-Some-clause-index
-at_u64-requires-in-Some-clause-index c = point_early c.args.self.now.lists.xy c.in-Some.xy c.args.i c.in-Some.is c.requires
+pub unreachable-requires : goal.unreachable-requires
+unreachable-requires c = omega (arith, ap length c.in-None.ensures.points, c.requires)
 
 pub returns-clause-point : goal.returns-clause-point
-returns-clause-point c =
-    let point = point_some c.args.self.now.lists.xy c.in-Some.xy c.args.i c.in-Some.is c.requires in
-    let x = c.at_u64.ensures in let y = c.at_u64-in-Some.ensures in cc
+returns-clause-point c = ap (λ ps. slice_get ps c.args.i) (sym c.in-Some.ensures.points) ∙ c.pair_at.ensures.point

@@ -1,0 +1,4 @@
+mod Walking
+mod Slicing
+mod Stops
+mod Turns

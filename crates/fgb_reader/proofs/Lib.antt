@@ -1,0 +1,7 @@
+mod Framing
+mod Filling
+pub mod Stopping
+pub mod Going
+pub mod Whole
+mod Starting
+mod Counting

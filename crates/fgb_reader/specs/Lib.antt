@@ -1,0 +1,6 @@
+pub mod Stops
+pub mod Requests
+pub mod Starts
+pub mod Filling
+pub mod Reading
+pub mod Tallies

@@ -1,0 +1,167 @@
+// The start and the header of a file.
+ghost use Rattle.std.specs.Prelude.{◌≡◌, ◌+◌, ◌≤◌, ◌^◌, ℕ, List, length, take, slice_range, IfOk, OnOk, OnErr, IsErrOf, MatchResult};
+ghost use Rattle.std.specs.List.{range_with_len};
+ghost use Rattle.fgb_outside.specs.Source.{HasSize, IfTold, Rose};
+ghost use Rattle.fgb_outside.specs.Asked.{IsInside, Reads, ReadsFront};
+ghost use Rattle.fgb_schema.specs.Headers.{has_index as has_index_of};
+ghost use Rattle.fgb_header.specs.Views.{header_shown};
+ghost use Rattle.fgb_file.specs.File.{BreaksInFront, IsSized, IsStart, IsUnindexed, header_buffer, header_in, header_size};
+ghost use Rattle.fgb_reader.specs.Stops.{IfRefused};
+ghost use Rattle.fgb_reader.specs.Requests.{AsksAtMost, mebibytes};
+ghost use Rattle.fgb_reader.specs.Starts.{IsOfStart, ShowsMagic};
+
+use crate::stop::ReadStop;
+use byteorder::{ByteOrder, LittleEndian};
+use fgb_header::HeaderView;
+use fgb_outside::{RangeSource, SourceError};
+use flat_views::{Broken, Rule};
+use std::alloc::Global;
+
+/// The bytes of the start: seven magic bytes, one of any value, and the header's size.
+pub const START: usize = 12;
+
+/// The largest file.
+const MAX_FILE: u64 = 1 << 48;
+
+/// The largest header.
+const MAX_HEADER: u32 = 10485760;
+
+/// The first seven bytes of a file: `fgb`, the version 3, and `fgb`.
+const MAGIC: [u8; 7] = [0x66, 0x67, 0x62, 0x03, 0x66, 0x67, 0x62];
+
+/// Judges the size of a file: refuses FileSize at 0 above 2^48 bytes, and Short at the size below 12.
+pub fn judge_size(size: u64) -> Result<(), Broken>
+    ensures judged { (image : List ℕ) → length image ≡ size → MatchResult result (λ _. IsSized image) (BreaksInFront image) }
+    ensures sized { OnOk result ((12 ≤ size) × (size ≤ 2 ^ 48)) }
+{
+    if size > MAX_FILE {
+        return Err(Broken {
+            place: 0,
+            rule: Rule::FileSize,
+        });
+    }
+    if size < START as u64 {
+        return Err(Broken {
+            place: size,
+            rule: Rule::Short,
+        });
+    }
+    Ok(())
+}
+
+/// Judges the twelve bytes of the start of a file of this size, and gives the header's size. Refuses Magic at
+/// the first magic byte that differs, or HeaderSize at 8. (FlatGeobuf, "Specification")
+pub fn judge_start(start: &[u8], size: u64) -> Result<usize, Broken>
+    requires twelve { length start.now ≡ 12 }
+    requires long { 12 ≤ size }
+    requires short { size ≤ 2 ^ 48 }
+    ensures judged { (image : List ℕ) → length image ≡ size → start.now ≡ take 12 image
+        → MatchResult result (λ len. IsStart image × (len ≡ header_size image)) (BreaksInFront image) }
+    ensures sized { IfOk result (λ len. (len ≤ 10485760) × (12 + len ≤ size)) }
+{
+    if let Some(place) = wrong_magic(start) {
+        return Err(Broken {
+            place: place as u64,
+            rule: Rule::Magic,
+        });
+    }
+    let header = LittleEndian::read_u32(&start[8..]);
+    if header > MAX_HEADER || START as u64 + header as u64 > size {
+        return Err(Broken {
+            place: 8,
+            rule: Rule::HeaderSize,
+        });
+    }
+    Ok(header as usize)
+}
+
+/// The place of the first magic byte that differs.
+fn wrong_magic(start: &[u8]) -> Option<usize>
+    requires { length start.now ≡ 12 }
+    ensures { ShowsMagic start.now result }
+{
+    for (i, byte) in MAGIC.iter().enumerate() {
+        if start[i] != *byte {
+            return Some(i);
+        }
+    }
+    None
+}
+
+/// Reads the header in its buffer, which stands behind the start. Refuses a rule of the header, or Indexed behind
+/// it where the file has an index, which is not read yet.
+pub fn judge_header<'a>(buffer: &'a [u8]) -> Result<HeaderView<'a>, Broken>
+    requires { length buffer.now ≤ 10485760 }
+    ensures judged { (image : List ℕ) → IsStart image → buffer.now ≡ header_buffer image
+        → MatchResult result (λ header. IsUnindexed image × (header_shown header ≡ header_in image)) (BreaksInFront image) }
+{
+    let header = HeaderView::read(buffer, START as u64)?;
+    if has_index(&header) {
+        return Err(Broken {
+            place: (START + buffer.len()) as u64,
+            rule: Rule::Indexed,
+        });
+    }
+    Ok(header)
+}
+
+/// Whether a file with this header has an index: the count and the node size are both above 0.
+fn has_index(header: &HeaderView) -> bool
+    ensures { result ≡ has_index_of (header_shown header.now) }
+{
+    header.features_count() > 0 && header.index_node_size() > 0
+}
+
+/// Fills `into` with the bytes from `at` on, and asks for nothing where it is empty.
+fn read_all<S: RangeSource>(file: &mut S, at: u64, into: &mut [u8]) -> Result<(), SourceError>
+    requires { at + length into.old ≤ (S.seen file.old).size }
+    ensures bytes { OnOk result (IfTold (S.seen file.old) (λ image. into.new ≡ slice_range image at (at + length into.new))) }
+    ensures reads { OnOk result (Reads (IsInside at (at + length into.old)) (S.seen file.old) (S.seen file.new) (range_with_len at (length into.old))) }
+    ensures front { OnErr result (ReadsFront (IsInside at (at + length into.old)) (S.seen file.old) (S.seen file.new) (range_with_len at (length into.old))) }
+    ensures few { OnOk result (AsksAtMost (mebibytes (length into.old)) (S.seen file.old) (S.seen file.new)) }
+    ensures failed { IsErrOf result SourceError.Failed → Rose (S.seen file.old).faults (S.seen file.new).faults }
+{
+    if into.is_empty() {
+        return Ok(());
+    }
+    file.read_at(at, into)
+}
+
+/// Reads the start of a source of this size in one request, and gives the header's size. Refuses what
+/// `judge_size` and `judge_start` refuse; nothing is asked for where the size is refused.
+pub fn read_start<S: RangeSource>(file: &mut S, size: u64) -> Result<usize, ReadStop>
+    requires { HasSize (S.seen file.old) size }
+    ensures start { IfOk result (λ len. IfTold (S.seen file.old) (λ image. IsStart image × (len ≡ header_size image))) }
+    ensures sized { IfOk result (λ len. (len ≤ 10485760) × (12 + len ≤ size) × (size ≤ 2 ^ 48)) }
+    ensures refused { IfRefused result (λ broken. IfTold (S.seen file.old) (λ image. BreaksInFront image broken)) }
+    ensures reads { OnOk result (Reads (IsOfStart size) (S.seen file.old) (S.seen file.new) (range_with_len 0 12)) }
+    ensures front { OnErr result (ReadsFront (IsOfStart size) (S.seen file.old) (S.seen file.new) (range_with_len 0 12)) }
+    ensures few { OnOk result (AsksAtMost 1 (S.seen file.old) (S.seen file.new)) }
+    ensures failed { IsErrOf result ReadStop.SourceFailed → Rose (S.seen file.old).faults (S.seen file.new).faults }
+{
+    judge_size(size)?;
+    let mut start = [0; START];
+    read_all(file, 0, &mut start)?;
+    let len = judge_start(&start, size)?;
+    Ok(len)
+}
+
+/// Reads the buffer of the header, which has this size, in one request.
+pub fn read_header<S: RangeSource>(
+    alloc: Global,
+    file: &mut S,
+    len: usize,
+) -> Result<Vec<u8>, ReadStop>
+    requires inside { 12 + len ≤ (S.seen file.old).size }
+    ensures len { IfOk result (λ buffer. length buffer.items ≡ len) }
+    ensures bytes { IfOk result (λ buffer. IfTold (S.seen file.old) (λ image. len ≡ header_size image → buffer.items ≡ header_buffer image)) }
+    ensures reads { OnOk result (Reads (IsInside 12 (12 + len)) (S.seen file.old) (S.seen file.new) (range_with_len 12 len)) }
+    ensures front { OnErr result (ReadsFront (IsInside 12 (12 + len)) (S.seen file.old) (S.seen file.new) (range_with_len 12 len)) }
+    ensures few { OnOk result (AsksAtMost (mebibytes len) (S.seen file.old) (S.seen file.new)) }
+    ensures failed { IsErrOf result ReadStop.SourceFailed → Rose (S.seen file.old).faults (S.seen file.new).faults }
+    ensures unrefused { IfRefused result (λ broken. ⊥) }
+{
+    let mut buffer = vec![in alloc; 0; len]?;
+    read_all(file, START as u64, &mut buffer)?;
+    Ok(buffer)
+}
