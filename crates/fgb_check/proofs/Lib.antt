@@ -1,4 +1,3 @@
 mod Walking
 mod Slicing
-mod Stops
 mod Turns

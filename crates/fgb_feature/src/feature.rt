@@ -47,6 +47,7 @@ impl<'a> FeatureView<'a> {
     /// geometry's table; PairCount, PointCount, Ends or Ordinates at a vector; NotFinite at a pattern; Required
     /// or ColumnType at a column's table; ColumnCount at the list of columns; PropColumn or PropEnd at a key;
     /// Weight at `base` where the paths weigh more than four times the buffer. (FlatGeobuf, feature.fbs)
+    #[inline(always)]
     pub fn read(
         bytes: &'a [u8],
         base: u64,
@@ -63,6 +64,7 @@ impl<'a> FeatureView<'a> {
     }
 
     /// The feature in a table, under a header and a meter.
+    #[inline(always)]
     fn in_table(
         table: Table<'a>,
         header: &HeaderView<'a>,
@@ -116,6 +118,7 @@ impl<'a> FeatureView<'a> {
 }
 
 /// The geometry of the feature in a table, under a header of this geometry type and under a meter.
+#[inline(always)]
 fn geometry_in<'a>(
     table: Table<'a>,
     outer: u8,
@@ -133,6 +136,7 @@ fn geometry_in<'a>(
 }
 
 /// The bytes of the properties of the feature in a table, under a meter.
+#[inline(always)]
 fn properties_in<'a>(table: Table<'a>, meter: &mut Meter) -> Result<Option<VecView<'a>>, Broken>
     ensures goes { let b = bytes_of table.entry in let t = place_of table.entry in
         Goes (base_of table.entry) b (properties_field t) (meter_place meter.old) (left_of meter.old) (left_of meter.new)
@@ -150,6 +154,7 @@ fn properties_in<'a>(table: Table<'a>, meter: &mut Meter) -> Result<Option<VecVi
 
 /// The properties in a vector of bytes, if there is one, under a feature's own columns, or those of its header
 /// where it has none. Refuses PropColumn or PropEnd at a key.
+#[inline(always)]
 fn judged<'a>(
     list: Option<VecView<'a>>,
     own: Columns<'a>,
@@ -167,6 +172,7 @@ fn judged<'a>(
 }
 
 /// Of a feature's own columns and those of its header, the ones that hold: its own where it has some.
+#[inline(always)]
 fn held<'a>(own: Columns<'a>, header: Columns<'a>) -> Columns<'a>
     ensures { columns_shown result ≡ holding (columns_shown own.entry) (columns_shown header.entry) }
 {

@@ -1,6 +1,6 @@
 -- What a `?` stops the work with.
 use Rattle.std.proofs.Common.{Result, Ok, Err, IsErrAnd, sym, subst}
-use Rattle.std.specs.Prelude.{OnOk, OnErr, IfErr}
+use Rattle.std.specs.Prelude.{IfErr}
 use Rattle.flat_layout.specs.declared.Broken.{Broken}
 use Rattle.fgb_reader.specs.Stops.{AtRefusal as AtReadRefusal}
 use Rattle.fgb_reader.specs.declared.stop.ReadStop.{ReadStop}
@@ -20,21 +20,8 @@ refusal_map SourceFailed P Q f p = tt
 refusal_map SinkFailed P Q f p = tt
 refusal_map Memory P Q f p = tt
 
-pub read_map : (e : ReadStop) (P Q : Broken → Type 0) → ((b : Broken) → P b → Q b) → AtReadRefusal e P → AtReadRefusal e Q
-read_map (read_stop.Refused b) P Q f p = f b p
-read_map read_stop.SourceFailed P Q f p = tt
-read_map read_stop.Memory P Q f p = tt
-
 -- a refusal is passed on, where it says as much
 pub refusal_passed : (e : ReadStop) (stop : Stop) (P Q : Broken → Type 0) → ((b : Broken) → P b → Q b) → IsReadCause e stop → AtReadRefusal e P → AtRefusal stop Q
 refusal_passed (read_stop.Refused b) stop P Q f cause p = subst (λ s. AtRefusal s Q) (sym cause) (f b p)
 refusal_passed read_stop.SourceFailed stop P Q f cause p = subst (λ s. AtRefusal s Q) (sym cause) tt
 refusal_passed read_stop.Memory stop P Q f cause p = subst (λ s. AtRefusal s Q) (sym cause) tt
-
-pub on_ok_both : {T E : Type 0} (r : Result T E) (P Q R : Type 0) → (P → Q → R) → OnOk r P → OnOk r Q → OnOk r R
-on_ok_both (Ok x) P Q R f p q = f p q
-on_ok_both (Err e) P Q R f p q = tt
-
-pub on_err_map : {T E : Type 0} (r : Result T E) (P Q : Type 0) → (P → Q) → OnErr r P → OnErr r Q
-on_err_map (Ok x) P Q f p = tt
-on_err_map (Err e) P Q f p = f p

@@ -19,7 +19,7 @@ use Rattle.fgb_tool.specs.Walks.{IsSearch, Stands, Ends, Stops}
 use Rattle.fgb_tool.specs.declared.stop.Stop.{Stop}
 use Rattle.fgb_tool.specs.declared.stop.Stop.TheVariants.{Refused}
 use Rattle.fgb_tool.specs.declared.walk.Search.{Search}
-use Rattle.fgb_tool.proofs.Exits.{read_map}
+use Rattle.fgb_reader.proofs.Stopping.{refusal_map}
 use Rattle.fgb_tool.proofs.Standing.{stops_next, stops_count, ends_of}
 
 -- from the pieces p to q, with so many counted
@@ -49,7 +49,7 @@ module _ (search : Search) (p q : Pieces) (s t : Source) (a b : Sink) (tally : T
   pub goes_stops : (e : ReadStop) (stop : Stop) → IsReadCause e stop → AtReadRefusal e (λ broken. IfTold t (λ image. end_of q ≡ length image → RefusesNext q broken image)) → IfTold s (λ image. IsSearch image search (end_of p) → Stops image search.bounds a b page stop)
   goes_stops e stop cause refuses image told is =
       stops_next image search.bounds q tally a b page e stop cause
-      (read_map e _ (λ broken. RefusesNext q broken image) (λ broken f. f image (goes.fetches.reads.keeps.image ∙ told) (goes.fetches.end ∙ is.whole)) refuses) (goes.stands image told is)
+      (refusal_map e _ (λ broken. RefusesNext q broken image) (λ broken f. f image (goes.fetches.reads.keeps.image ∙ told) (goes.fetches.end ∙ is.whole)) refuses) (goes.stands image told is)
 
   module _ (r : Pieces) (u : Source) (fetches : Fetches q r t u) where
     -- the search is still for the file that it began with

@@ -11,6 +11,8 @@ use Rattle.fgb_schema.specs.Weights.{BreaksBuffer}
 use Rattle.fgb_schema.specs.Features.{Feature, feature_of, own_box}
 use Rattle.fgb_header.specs.Views.{header_shown}
 use Rattle.fgb_outside.specs.Sink.{Sink, Appends, AppendsPart}
+use Rattle.fgb_outside.specs.declared.sinks.SinkError.{SinkError}
+use Rattle.fgb_outside.specs.declared.sinks.SinkError.TheVariants as sink_error
 use Rattle.fgb_outside.proofs.Shown.{appends_appends, take_past}
 use Rattle.fgb_file.specs.File.{header_in, size_at, buffer_at, Walks, BreaksFeature, in_prefix, in_buffer, BreaksCount, Agrees, told_count, Passes}
 use Rattle.fgb_file.specs.Found.{Entry, box_of, line, answer}
@@ -20,14 +22,12 @@ use Rattle.fgb_file.proofs.Passing.{passes_more, passes_file, passes_end, passes
 use Rattle.fgb_file.proofs.Entries.{answer_hit, answer_miss, next_entry}
 use Rattle.fgb_reader.specs.Reading.{StandsIn, RefusesNext, buffer_of, next_of, place_of}
 use Rattle.fgb_reader.specs.Tallies.{Counts}
-use Rattle.fgb_reader.specs.declared.pieces.Pieces.{Pieces}
-use Rattle.fgb_reader.specs.declared.tally.Tally.{Tally}
-use Rattle.fgb_tool.specs.Pages.{Owes}
-use Rattle.fgb_outside.specs.declared.sinks.SinkError.{SinkError}
-use Rattle.fgb_outside.specs.declared.sinks.SinkError.TheVariants as sink_error
 use Rattle.fgb_reader.specs.Stops.{AtRefusal as AtReadRefusal}
 use Rattle.fgb_reader.specs.declared.stop.ReadStop.{ReadStop}
 use Rattle.fgb_reader.specs.declared.stop.ReadStop.TheVariants as read_stop
+use Rattle.fgb_reader.specs.declared.pieces.Pieces.{Pieces}
+use Rattle.fgb_reader.specs.declared.tally.Tally.{Tally}
+use Rattle.fgb_tool.specs.Pages.{Owes}
 use Rattle.fgb_tool.specs.Causes.{AtRefusal, IsReadCause, IsSinkCause}
 use Rattle.fgb_tool.specs.Runs.{behind, at_end}
 use Rattle.fgb_tool.specs.Walks.{IsSearch, Stands, Ends, EndsPart, EndsRefused, Stops}

@@ -377,6 +377,7 @@ fn shared_parts(alloc: Global) -> Result<Vec<u8>, AllocError> {
 fn shared_parts_are_heavy(rt: HostRuntime) -> Result<(), Fail> {
     let file = shared_parts(rt.alloc())?;
     refuses(&rt, &QUERY, &file, "", "refused: Weight at 40\n")?;
+    refuses(&rt, &CHECK, &file, "", "refused: Weight at 40\n")?;
     Ok(())
 }
 

@@ -1,9 +1,8 @@
 use Rattle.std.proofs.Common.{sym, ◌∙◌}
 use Rattle.fgb_outside.specs.Source.{IfTold}
 use Rattle.fgb_reader.specs.Requests.{AsksFront}
-use Rattle.fgb_reader.proofs.Stopping.{on_err}
+use Rattle.fgb_reader.proofs.Stopping.{on_err, on_err_map, on_ok_both}
 use Rattle.fgb_reader.proofs.Whole.{front_of_start, front_of_header, front_behind, front_in_features, asks_all}
-use Rattle.fgb_check.proofs.Stops.{on_ok_both, on_err_map}
 use Rattle.fgb_check.proofs.Walking.{is_opened}
 use Rattle.fgb_check.proofs.source.count.Goals as goal
 

@@ -1,8 +1,7 @@
 use Rattle.std.proofs.Common.{Err, Ok, ◌∙◌}
 use Rattle.fgb_header.specs.Views.{header_shown}
-use Rattle.fgb_reader.proofs.Stopping.{refused_exit, on_err}
+use Rattle.fgb_reader.proofs.Stopping.{refused_exit, stop_exit, refusal_map, on_err}
 use Rattle.fgb_reader.proofs.Going.{fetches_on, fetches_part, fetches_whole}
-use Rattle.fgb_check.proofs.Stops.{refusal_map, stop_exit}
 use Rattle.fgb_check.proofs.Turns.{goes_none, goes_refused, goes_judged, goes_broken, goes_next, read_all, read_part}
 use Rattle.fgb_check.proofs.source.count_features.Goals as goal
 

@@ -5,8 +5,8 @@ use Rattle.fgb_reader.proofs.Whole.{front_of_start, front_of_header, front_behin
 use Rattle.fgb_tool.specs.Causes.{IsReadCause}
 use Rattle.fgb_tool.specs.Runs.{AnswersPart}
 use Rattle.fgb_tool.specs.declared.stop.Stop.TheVariants.{Refused}
-use Rattle.fgb_reader.proofs.Stopping.{on_err}
-use Rattle.fgb_tool.proofs.Exits.{exit_cause, on_ok_both, on_err_map, refusal_passed}
+use Rattle.fgb_reader.proofs.Stopping.{on_err, on_err_map, on_ok_both}
+use Rattle.fgb_tool.proofs.Exits.{exit_cause, refusal_passed}
 use Rattle.fgb_tool.proofs.Querying.{part_in_front, refused_in_front}
 use Rattle.fgb_tool.proofs.query.query.Goals as goal
 
