@@ -1,7 +1,7 @@
 //! Says whether a FlatGeobuf file breaks a rule.
 //!
-//! [`check`] reads a source front to back, each byte once, and [`check_slice`] goes through bytes in memory and takes
-//! none. Both accept exactly the files that break no rule anywhere (`IsFile` of `fgb_file`), with the number of
+//! [`check`] reads a source front to back, each byte once, and [`check_slice`] goes through bytes in memory, and takes
+//! no memory. Both accept exactly the files that break no rule anywhere (`IsFile` of `fgb_file`), with the number of
 //! their features, and else name a rule that is broken at its place in the first unit of the file in which any is
 //! (`BreaksFirst`). A file with an index is refused today, since its nodes are not read yet.
 //!

@@ -71,7 +71,7 @@ pub record Walks (image : List ℕ) (pieces : List (List ℕ)) (at : ℕ) : Type
   pub within : at ≤ length image
   pub each : AllByRecursion IsPiece pieces
 
--- so many features agree with what the header says
+-- what a header says of the number of features, 0 where it does not say it, agrees with so many
 pub data Agrees : ℕ → ℕ → Type 0 where
   untold : {n : ℕ} → Agrees 0 n
   same : {n : ℕ} → Agrees n n
@@ -157,7 +157,7 @@ pub record BreaksFile (image : List ℕ) (q : ℕ) (r : Rule) : Type 0 where
   pub unit : Unit
   pub broken : BreaksUnit image unit q r
 
--- so is the rule that a refusal names at its place, and in no unit in front of that one any is
+-- the rule that a refusal names is broken at its place in some unit, and no rule is broken in a unit in front of that one
 pub record BreaksFirst (image : List ℕ) (refusal : Broken) : Type 0 where
   pub unit : Unit
   pub broken : BreaksUnit image unit refusal.place refusal.rule
@@ -167,7 +167,7 @@ pub record BreaksFirst (image : List ℕ) (refusal : Broken) : Type 0 where
 abbrev pub IsValid : List ℕ → Type 0
 IsValid image = (q : ℕ) (r : Rule) → BreaksFile image q r → ⊥
 
--- going through the features came to this place, past so many that break no rule
+-- going through the features came to this place, past these pieces, none of which breaks a rule
 pub record Passes (image : List ℕ) (pieces : List (List ℕ)) (at : ℕ) : Type 0 where
   pub unindexed : IsUnindexed image
   pub walks : Walks image pieces at

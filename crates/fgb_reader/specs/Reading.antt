@@ -41,13 +41,14 @@ pub record StandsIn (image : List ℕ) (p : Pieces) : Type 0 where
   pub len : p.len ≡ 4 + size_at image (place_of p)
   pub buffer : buffer_of p ≡ buffer_at image (place_of p)
 
--- it went on to what came behind the feature, which ends there, at the end of the section or at another feature
+-- it went on behind the feature, where the section ends
 pub record IsAtEnd (p p' : Pieces) : Type 0 where
   pub place : place_of p' ≡ next_of p
   pub ended : next_of p ≡ end_of p
   pub len : p'.len ≡ 0
   pub ahead : ahead_of p' ≡ end_of p
 
+-- it went on behind the feature, where the next one stands
 pub record IsAtNext (p p' : Pieces) (s : Source) : Type 0 where
   pub place : place_of p' ≡ next_of p
   pub early : next_of p < end_of p

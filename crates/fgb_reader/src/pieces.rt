@@ -51,7 +51,7 @@ pub fn framed_size(front: &[u8], left: u64, at: u64) -> Result<usize, Broken>
 }
 
 /// Goes through the features of a section of a source: lends the buffer of one after another. The section is read
-/// in requests of up to 1 MiB, each byte once, into a buffer that is reused.
+/// in requests of up to 1 MiB, each byte once where no request fails, into a buffer that is reused.
 #[derive(Drop)]
 pub struct Pieces {
     window: Window,
@@ -88,7 +88,7 @@ impl Pieces {
     }
 
     /// Goes on to the next feature, and says whether there is one. Refuses FeaturePastEnd or FeatureSize at its
-    /// size prefix. After an error none is lent, and the next call goes on to the same feature again.
+    /// size prefix. After an error the next call goes on to the same feature again.
     pub fn advance<S: RangeSource>(&mut self, source: &mut S) -> Result<bool, ReadStop>
         requires { Shows self.old (S.seen source.old) }
         ensures goes { IfOk result (λ more. MatchBool more (IsAtNext self.old self.new (S.seen source.old)) (IsAtEnd self.old self.new)) }

@@ -146,7 +146,7 @@ pub fn read_start<S: RangeSource>(file: &mut S, size: u64) -> Result<usize, Read
     Ok(len)
 }
 
-/// Reads the buffer of the header, which has this size, in one request.
+/// Reads the buffer of the header, which has this size. It is judged by `judge_header`.
 pub fn read_header<S: RangeSource>(
     alloc: Global,
     file: &mut S,

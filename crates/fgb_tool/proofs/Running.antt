@@ -17,7 +17,7 @@ use Rattle.fgb_tool.specs.declared.stop.Stop.TheVariants.{SourceFailed, SinkFail
 use Rattle.fgb_tool.specs.Causes.{IfRefused}
 use Rattle.fgb_tool.specs.Texts.{accepted_text}
 use Rattle.fgb_tool.specs.Words.{Request, query, check}
-use Rattle.fgb_tool.specs.Runs.{Answers, ArePassed, none, some, AnswersPart, Refuses, IsStatus, Runs, Accepts, Checks, Does}
+use Rattle.fgb_tool.specs.Runs.{Answers, ArePassed, none, some, AnswersPart, Refuses, IsStatus, Runs, Accepts, AcceptsPart, Checks, Does}
 use Rattle.fgb_tool.proofs.Statuses.{statuses, not_usage, at_done, at_refused, at_source, at_sink, at_memory, unfailed}
 
 -- whichever way a result went
@@ -94,6 +94,7 @@ pub record Checked {T : Type 0} (s s' : Source) (o o' : Sink) (result : Result T
   pub front : OnErr result (IfTold s (λ image. AsksFront image s s'))
   pub failed : IsErrOf result SourceFailed → Rose s.faults s'.faults
   pub sink_failed : IsErrOf result SinkFailed → Rose o.faults o'.faults
+  pub wrote : IfTold s (λ image. AcceptsPart image o o')
   pub part : IfTold s (λ image. (pieces : List (List ℕ)) → IsFile image pieces → AppendsPart o o' (accepted_text (length pieces) 0))
   pub broken : IfTold s (λ image. (IsValid image → ⊥) → o' ≡ o)
   pub unwritten : IfRefused result (λ _. o' ≡ o)
@@ -114,6 +115,7 @@ module _ {T : Type 0} (s s' : Source) (o o' e e' : Sink) (status : ℕ) (r : Res
         memory = at_memory e e' status r is;
         statuses = statuses e e' status r is;
         front = front_of r s s' q.asked q.front;
+        part = q.wrote;
         valid_part = λ image told pieces file. (q.part image told pieces file, λ one. refused image told one (file_sound image file));
         broken_none = λ image told invalid. (q.broken image told invalid, λ zero. accepted image told zero invalid);
         valid_done = λ image told valid source sink. ⊎_elim inl (λ rest. ⊎_elim (λ one. absurd (refused image told one valid)) inr rest)

@@ -69,7 +69,7 @@ pub record Runs (box : Bounds) (s s' : Source) (o o' e e' : Sink) (status : ℕ)
   pub front : IfTold s (λ image. AsksFront image s s')
   -- and the lines of found features were written, or a front of them
   pub part : IfTold s (λ image. AnswersPart image box o o')
-  -- on a file that breaks no rule these are lines of its found features
+  -- on a file that breaks no rule this is a front of the lines of its found features
   pub valid_part : IfTold s (λ image. (pieces : List (List ℕ)) → IsFile image pieces → AppendsPart o o' (answer (header_in image) box pieces))
   -- and where moreover no count rose, the query is answered, or there was no memory
   pub valid_done : IfTold s (λ image. IsValid image → (Rose s.faults s'.faults → ⊥) → (Rose o.faults o'.faults → ⊥) → (status ≡ 0) ⊎ (status ≡ 5))
@@ -79,6 +79,11 @@ pub record Accepts (image : List ℕ) (o o' : Sink) : Type 0 where
   pub pieces : List (List ℕ)
   pub file : IsFile image pieces
   pub written : Appends o o' (accepted_text (length pieces) 0)
+
+-- nothing was written, or the line of a file that breaks no rule, or a front of it
+pub data AcceptsPart (image : List ℕ) (o o' : Sink) : Type 0 where
+  nothing : o' ≡ o → AcceptsPart image o o'
+  line_of : {pieces : List (List ℕ)} → IsFile image pieces → AppendsPart o o' (accepted_text (length pieces) 0) → AcceptsPart image o o'
 
 -- what a check does, by the status that it ends with
 pub record Checks (s s' : Source) (o o' e e' : Sink) (status : ℕ) : Type 0 where
@@ -95,6 +100,8 @@ pub record Checks (s s' : Source) (o o' e e' : Sink) (status : ℕ) : Type 0 whe
   pub statuses : (status ≡ 0) ⊎ (status ≡ 1) ⊎ (status ≡ 3) ⊎ (status ≡ 4) ⊎ (status ≡ 5)
   -- whatever the status, a front of the file was asked for, in order and each position once
   pub front : IfTold s (λ image. AsksFront image s s')
+  -- and nothing was written, or the line of a file that breaks no rule, or a front of it
+  pub part : IfTold s (λ image. AcceptsPart image o o')
   -- on a file that breaks no rule its line was written, or a front of it, and it is not refused
   pub valid_part : IfTold s (λ image. (pieces : List (List ℕ)) → IsFile image pieces → AppendsPart o o' (accepted_text (length pieces) 0) × (status ≢ 1))
   -- on one that breaks a rule nothing was written, and it is not accepted

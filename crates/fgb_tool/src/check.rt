@@ -5,7 +5,7 @@ ghost use Rattle.fgb_outside.specs.Sink.{AppendsPart};
 ghost use Rattle.fgb_file.specs.File.{BreaksFirst, IsFile, IsValid};
 ghost use Rattle.fgb_reader.specs.Requests.{AsksAll, AsksFront};
 ghost use Rattle.fgb_tool.specs.Causes.{IfRefused};
-ghost use Rattle.fgb_tool.specs.Runs.{Accepts};
+ghost use Rattle.fgb_tool.specs.Runs.{Accepts, AcceptsPart};
 ghost use Rattle.fgb_tool.specs.Texts.{accepted_text};
 
 use crate::stop::Stop;
@@ -28,6 +28,7 @@ pub(crate) fn check_file<S: RangeSource, W: Sink>(
     ensures sink_failed { IsErrOf result Stop.SinkFailed → Rose (W.shown out.old).faults (W.shown out.new).faults }
 
     // Only the line of a file that breaks no rule is written, or a front of it.
+    ensures wrote { IfTold (S.seen file.old) (λ image. AcceptsPart image (W.shown out.old) (W.shown out.new)) }
     ensures part { IfTold (S.seen file.old) (λ image. (pieces : List (List ℕ)) → IsFile image pieces → AppendsPart (W.shown out.old) (W.shown out.new) (accepted_text (length pieces) 0)) }
     ensures broken { IfTold (S.seen file.old) (λ image. (IsValid image → ⊥) → W.shown out.new ≡ W.shown out.old) }
     ensures unwritten { IfRefused result (λ _. W.shown out.new ≡ W.shown out.old) }

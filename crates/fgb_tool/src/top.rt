@@ -35,7 +35,8 @@ pub fn run<S: RangeSource, W: Sink, E: Sink>(
     out: &mut W,
     err: &mut E,
 ) -> u8
-    // Status 2 comes exactly where the words ask for nothing that there is. Then nothing is asked or written.
+    // Status 2 comes exactly where the words ask for nothing that there is. Then nothing is asked, and nothing but the
+    // usage is written, on `err`.
     ensures usage { result ≡ 2 → IsUsage (texts words.now) }
     ensures usage_text { result ≡ 2 → Tells (E.shown err.old) (E.shown err.new) usage_text }
     ensures untouched { result ≡ 2 → (S.seen file.new ≡ S.seen file.old) × (W.shown out.new ≡ W.shown out.old) }

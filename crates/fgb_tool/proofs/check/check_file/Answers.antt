@@ -1,4 +1,6 @@
-use Rattle.fgb_tool.proofs.Checking.{line_of_file, accepted_valid}
+use Rattle.std.proofs.Common.{refl}
+use Rattle.fgb_tool.specs.Runs.{nothing}
+use Rattle.fgb_tool.proofs.Checking.{line_of_file, line_written, accepted_valid}
 use Rattle.fgb_tool.proofs.check.check_file.Goals as goal
 
 pub returns-in_err-write_accepted-in-Accepted-clause-part : goal.returns-in_err-write_accepted-in-Accepted-clause-part
@@ -16,3 +18,17 @@ returns-clause-part g c = λ image told pieces file.
 pub returns-clause-broken : goal.returns-clause-broken
 returns-clause-broken g c = λ image told invalid.
     absurd (accepted_valid image c.in_ok-features.field-0 c.in-Accepted.features c.in-Accepted.nodes c.in-Accepted.is (c.in_ok-features.ensures.judged image told) invalid)
+
+pub returns-in_err-features-clause-wrote : goal.returns-in_err-features-clause-wrote
+returns-in_err-features-clause-wrote g c = λ image told. nothing refl
+
+pub returns-in-Refused-clause-wrote : goal.returns-in-Refused-clause-wrote
+returns-in-Refused-clause-wrote g c = λ image told. nothing refl
+
+pub returns-in_err-write_accepted-in-Accepted-clause-wrote : goal.returns-in_err-write_accepted-in-Accepted-clause-wrote
+returns-in_err-write_accepted-in-Accepted-clause-wrote g c = λ image told.
+    line_written image c.in_ok-features.field-0 c.in-Accepted.features c.in-Accepted.nodes c.in-Accepted.is (c.in_ok-features.ensures.judged image told) (g.W.Sink.shown c.args.out.now) (g.W.Sink.shown c.write_accepted.new.out) c.in_err-write_accepted-in-Accepted.ensures.writing.part
+
+pub returns-clause-wrote : goal.returns-clause-wrote
+returns-clause-wrote g c = λ image told.
+    line_written image c.in_ok-features.field-0 c.in-Accepted.features c.in-Accepted.nodes c.in-Accepted.is (c.in_ok-features.ensures.judged image told) (g.W.Sink.shown c.args.out.now) (g.W.Sink.shown c.write_accepted.new.out) c.in_ok-write_accepted-in-Accepted.ensures.writing.part

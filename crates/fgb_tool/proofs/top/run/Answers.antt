@@ -33,6 +33,7 @@ returns-in-Some-Check-clause-does g c = λ request asks.
       front = left.front;
       failed = left.failed;
       sink_failed = left.sink_failed;
+      wrote = left.wrote;
       part = left.part;
       broken = left.broken;
       unwritten = left.unwritten;
