@@ -1,5 +1,6 @@
 #!/usr/bin/env python3
-"""Times `fgb check` and a query that finds nothing on 1,000,000 Points, against `cat` of the same file.
+"""Times `fgb check` and a query that finds nothing on 1,000,000 Points, against `cat` of the same file, and `fgb check`
+on the same points behind an index, against `cat` of that file.
 
     bench/points.py [PROGRAM]
 
@@ -9,6 +10,7 @@ and its peak memory. PROGRAM is the built `fgb`, which `./fgb` builds.
 
 import os
 import pathlib
+import struct
 import sys
 import tempfile
 import time
@@ -25,6 +27,26 @@ POINT = bytes.fromhex(
     "120009000000040000000000000000000800 000000000000 18000000 0c000000 01000000 00000000"
     "02000000 000000000000f03f 0000000000000040"
 )
+
+# The same start and header, which say how many points there are and leave the node size at 16, and the box of a node.
+COUNTED = bytes.fromhex(
+    "6667620366676201 30000000 20000000 16000d00000000000c00000000000000000000000400 000000000000 1c000000"
+) + struct.pack("<Q", POINTS) + bytes.fromhex("01 000000")
+BOX = POINT[-16:] * 2
+
+
+def index(node_size=16):
+    """The index over the points: the levels from the root down, each a list of offsets."""
+    widths = [POINTS]
+    while len(widths) == 1 or widths[-1] > 1:
+        widths.append(-(-widths[-1] // node_size))
+    nodes = bytearray()
+    below = 0
+    for level in range(len(widths) - 1, -1, -1):
+        below += widths[level]
+        for i in range(widths[level]):
+            nodes += BOX + struct.pack("<Q", below + node_size * i if level else len(POINT) * i)
+    return bytes(nodes)
 
 
 def start(command):
@@ -63,19 +85,25 @@ def main():
     top = pathlib.Path(__file__).resolve().parent.parent
     program = sys.argv[1] if len(sys.argv) > 1 else str(top / "crates/fgb/out/fgb")
     with tempfile.TemporaryDirectory() as folder:
-        file = os.path.join(folder, "points.fgb")
-        with open(file, "wb") as out:
+        plain = os.path.join(folder, "points.fgb")
+        with open(plain, "wb") as out:
             out.write(EMPTY + POINT * POINTS)
+        indexed = os.path.join(folder, "indexed.fgb")
+        with open(indexed, "wb") as out:
+            out.write(COUNTED + index() + POINT * POINTS)
         rows = [
-            ("cat", ["cat", file]),
-            ("check", [program, "check", file]),
-            ("query", [program, "query", file, "--box=200,200,201,201"]),
+            ("cat", ["cat", plain]),
+            ("check", [program, "check", plain]),
+            ("query", [program, "query", plain, "--box=200,200,201,201"]),
+            ("cat indexed", ["cat", indexed]),
+            ("check indexed", [program, "check", indexed]),
         ]
         base = None
         for name, command in rows:
             best = min(seconds(command) for _ in range(RUNS))
-            base = base or best
-            print(f"{name:6} {best * 1000:8.1f} ms {best / base:6.1f} times cat {peak(command) / 1024:6.1f} MiB")
+            if command[0] == "cat":
+                base = best
+            print(f"{name:13} {best * 1000:8.1f} ms {best / base:6.1f} times cat {peak(command) / 1024:6.1f} MiB")
 
 
 if __name__ == "__main__":

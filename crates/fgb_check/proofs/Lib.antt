@@ -1,3 +1,7 @@
-mod Walking
+mod Beside
+mod Declared
+mod Indexed
+mod Nodes
 mod Slicing
 mod Turns
+mod Walking

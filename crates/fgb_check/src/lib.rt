@@ -1,9 +1,9 @@
 //! Says whether a FlatGeobuf file breaks a rule.
 //!
-//! [`check`] reads a source front to back, each byte once, and [`check_slice`] goes through bytes in memory, and takes
-//! no memory. Both accept exactly the files that break no rule anywhere (`IsFile` of `fgb_file`), with the number of
-//! their features, and else name a rule that is broken at its place in the first unit of the file in which any is
-//! (`BreaksFirst`). A file with an index is refused today, since its nodes are not read yet.
+//! [`check`] reads a source front to back, and [`check_slice`] goes through bytes in memory, and takes no memory. Both
+//! accept exactly the files that break no rule anywhere (`IsFile` of `fgb_file`), with the number of their features and
+//! of the nodes of their index, and else name a rule that is broken at its place in the first unit of the file in which
+//! any is (`BreaksFirst`).
 //!
 //! ```text
 //! match check(alloc, &mut source)? {
@@ -13,6 +13,7 @@
 //! ```
 #![tactic(auto)]
 
+mod leaf;
 mod slice;
 mod source;
 #[cfg(test)]

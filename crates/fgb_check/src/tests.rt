@@ -1,6 +1,8 @@
 use super::*;
 use fgb_outside::MemorySource;
 use flat_views::{Broken, Rule};
+use node_items::NodeItem;
+use order_keys::{Bounds, Coord};
 use std::test::Fail;
 
 /// The start and the header of a file of type Point.
@@ -128,4 +130,82 @@ fn sources(rt: HostRuntime) -> Result<(), Fail> {
         );
     }
     Ok(())
+}
+
+/// The start and the header of a file of type Point with one feature and an index.
+const ONE: [u8; 60] = [
+    102, 103, 98, 3, 102, 103, 98, 1, 48, 0, 0, 0, 32, 0, 0, 0, 22, 0, 13, 0, 0, 0, 0, 0, 12, 0, 0,
+    0, 0, 0, 0, 0, 0, 0, 0, 0, 4, 0, 0, 0, 0, 0, 0, 0, 28, 0, 0, 0, 1, 0, 0, 0, 0, 0, 0, 0, 1, 0,
+    0, 0,
+];
+
+/// The node with the box of the point (1, 2) and this offset.
+fn node(offset: u64) -> [u8; 40] {
+    let x = Coord(0x3FF0_0000_0000_0000);
+    let y = Coord(0x4000_0000_0000_0000);
+    let bounds = Bounds::of_point(x, y);
+    NodeItem { bounds, offset }.encode()
+}
+
+/// The header, and an index of a root, at 60, and a leaf, at 100.
+fn front() -> [u8; 140] {
+    let mut bytes = [0; 140];
+    bytes[..60].copy_from_slice(&ONE);
+    bytes[60..100].copy_from_slice(&node(1));
+    bytes[100..].copy_from_slice(&node(0));
+    bytes
+}
+
+/// One point, at 140, behind its index.
+fn indexed() -> [u8; 228] {
+    let mut bytes = [0; 228];
+    bytes[..140].copy_from_slice(&front());
+    bytes[140..].copy_from_slice(&POINT);
+    bytes
+}
+
+#[test]
+fn an_index_is_judged(rt: HostRuntime) -> Result<(), Fail> {
+    let mut file = indexed();
+    let whole = Verdict::Accepted {
+        features: 1,
+        nodes: 2,
+    };
+    // a place of the file, the byte that is put there, and what is refused; each is broken besides the later ones
+    let rows = [
+        (227, 0x40, whole),
+        // the least bit of the feature's x
+        (212, 1, refused(100, Rule::LeafBox)),
+        (132, 1, refused(100, Rule::LeafOffset)),
+        // the root's min x, then its max x, so that it begins right of its leaf
+        (60, 1, refused(60, Rule::NodeBox)),
+        (76, 1, refused(60, Rule::ParentBox)),
+        (92, 2, refused(60, Rule::ChildOffset)),
+        (52, 9, refused(60, Rule::IndexPastEnd)),
+        (56, 8, refused(44, Rule::Kind)),
+    ];
+    for (at, byte, want) in rows {
+        assert!(rt; at < 228);
+        file[at] = byte;
+        assert_eq!(rt; check_slice(&file), want);
+        let mut source = MemorySource::new(rt.alloc(), &file, &[])?;
+        assert_eq!(rt; check(rt.alloc(), &mut source)?, want);
+    }
+    Ok(())
+}
+
+#[test]
+fn an_index_is_cut(rt: HostRuntime) {
+    let file = indexed();
+    let rows = [
+        (139, refused(60, Rule::IndexPastEnd)),
+        (140, refused(140, Rule::FeatureCount)),
+        (227, refused(140, Rule::FeaturePastEnd)),
+    ];
+    for (len, want) in rows {
+        let Some(bytes) = file.get(..len) else {
+            panic!(rt; "no front of {len} bytes");
+        };
+        assert_eq!(rt; check_slice(bytes), want);
+    }
 }

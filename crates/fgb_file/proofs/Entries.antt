@@ -7,7 +7,8 @@ use Rattle.std.proofs.lemmas.List.Elements.{filter-append}
 use Rattle.order_keys.specs.declared.bounds.Bounds.{Bounds}
 use Rattle.order_keys.specs.Boxes.{meets}
 use Rattle.fgb_schema.specs.Headers.{Header}
-use Rattle.fgb_file.specs.Found.{Entry, box_of, entries, found, line, lines, answer}
+use Rattle.fgb_file.specs.File.{box_of}
+use Rattle.fgb_file.specs.Found.{Entry, entries, found, line, lines, answer}
 
 entries-append : (header : Header) (number offset : ℕ) (ws ps : List (List ℕ))
     → entries header number offset (ws ++ ps) ≡ entries header number offset ws ++ entries header (number + length ws) (offset + length (concat ws)) ps

@@ -2,6 +2,8 @@ pub mod Rows
 pub mod Bytes
 pub mod Pieces
 pub mod Walk
+pub mod Opening
+pub mod Leaves
 pub mod Valid
 pub mod Entries
 pub mod Units

@@ -1,18 +1,20 @@
 -- How going through the features begins, goes on and ends, and which unit is the first broken one where it stops.
-use Rattle.std.proofs.Common.{◌≡◌, ◌⊎◌, inl, inr, ⊎_elim, ℕ, ◌+◌, ◌*◌, ◌≤◌, ◌<◌, true, false, List, [], ◌∷◌, ◌++◌, length, get_or, take, drop, refl, sym, ap, subst, ◌∙◌, arith, length-append, length-drop}
+use Rattle.std.proofs.Common.{◌≡◌, ◌⊎◌, inl, inr, ⊎_elim, ℕ, ◌+◌, ◌*◌, ◌≤◌, ◌<◌, true, List, [], ◌∷◌, ◌++◌, length, get_or, drop, Option, Some, None, refl, sym, ap, subst, ◌∙◌, arith, length-drop}
 use Rattle.std.specs.List.{AllByRecursion, concat}
-use Rattle.std.proofs.lemmas.List.{append-nil, take_all, take_rest, take_at, get_or-take}
-use Rattle.std.proofs.lemmas.Bool.{true≢false}
+use Rattle.std.proofs.lemmas.List.{append-nil, take_all, take_rest, get_or-take}
 use Rattle.flat_layout.specs.declared.Rule.{Rule}
-use Rattle.flat_layout.specs.declared.Rule.TheVariants.{Indexed, FeatureCount}
 use Rattle.flat_layout.specs.declared.Broken.{Broken}
-use Rattle.flat_layout.specs.Promises.{Names}
 use Rattle.fgb_schema.specs.Paths.{feature_root}
 use Rattle.fgb_schema.specs.Weights.{BreaksBuffer}
+use Rattle.level_bounds.specs.Levels.{Shape}
+use Rattle.node_items.specs.Faults.{BreaksTree}
 use Rattle.fgb_schema.specs.Headers.{has_index}
-use Rattle.fgb_file.specs.File.{header_end, header_in, told_count, size_at, buffer_at, IsStart, IsHeader, IsUnindexed, IsPiece, IsFeature, Walks, Agrees, untold, same, IsFile, IsFramed, BreaksFeature, in_buffer, BreaksCount, too_few, too_many, Unit, the_start, the_header, the_index, the_feature, the_end, IsBefore, BreaksUnit, file_size, short, magic_byte, header_size_past, in_header, indexed, in_feature, at_end, BreaksFile, BreaksFirst, IsValid, Passes}
+use Rattle.fgb_schema.specs.Features.{feature_of, own_box}
+use Rattle.fgb_file.specs.File.{header_end, header_in, told_count, size_at, buffer_at, IsStart, IsHeader, IsTree, IsIndex, IsOpen, absent, present, first_place, node_in, AreNodes, box_of, LeafAgrees, IsPiece, IsFeature, Walks, Agrees, untold, same, IsFile, IsFramed, BreaksFeature, BreaksLeaf, BreaksCount, too_few, too_many, Unit, the_start, the_header, the_index, the_feature, the_end, IsBefore, BreaksUnit, file_size, short, magic_byte, header_size_past, in_header, index_past_end, in_tree, in_feature, at_leaf, at_end, BreaksFile, BreaksFirst, IsValid, Passes}
+use Rattle.fgb_file.proofs.Opening.{not_both, open_same, open_inside}
+use Rattle.fgb_file.proofs.Leaves.{leaves_none, leaves_more, leaf_sound}
 use Rattle.fgb_file.proofs.Units.{not_earlier, earlier_feature, same_unit}
-use Rattle.fgb_file.proofs.Walk.{all-append, all-rest, framed_all, no_more, pieces_long, walk_start, piece_at, piece_feature, walk_step, walk_offset, walk_front, walk_earlier, passed_sound}
+use Rattle.fgb_file.proofs.Walk.{all-append, all-rest, framed_all, no_more, pieces_long, walk_start, piece_at, piece_buffer, piece_feature, walk_step, walk_offset, walk_front, walk_earlier, buffer_there, walk_passed, passed_one, passed_sound}
 
 pub agrees_tells : {told n : ℕ} → Agrees told n → (told ≡ 0) ⊎ (told ≡ n)
 agrees_tells untold = inl refl
@@ -24,65 +26,76 @@ agrees_untold {n = n} is = subst (λ t. Agrees t n) (sym is) untold
 pub agrees_same : {told n : ℕ} → told ≡ n → Agrees told n
 agrees_same {n = n} is = subst (λ t. Agrees t n) (sym is) same
 
-some_piece : (rest : List (List ℕ)) → 0 < length (concat rest) → 0 < length rest
-some_piece [] some = some
-some_piece (p ∷ ps) some = omega arith
-
 module _ (image : List ℕ) where
   -- ## Going on
 
   -- no feature is passed yet
-  pub passes_none : IsUnindexed image → Passes image [] (header_end image)
-  passes_none unindexed = record { unindexed = unindexed; walks = walk_start image unindexed.header.start; each = tt }
-
-  -- one more feature, whose buffer breaks no rule
-  pub passes_more : {pieces : List (List ℕ)} {at : ℕ} → Passes image pieces at → IsFramed image at → ((q : ℕ) (r : Rule) → BreaksBuffer (buffer_at image at) (feature_root (header_in image)) q r → ⊥)
-      → Passes image (pieces ++ piece_at image at ∷ []) (at + (4 + size_at image at))
-  passes_more {pieces = pieces} {at = at} passes framed clean = record {
-    unindexed = passes.unindexed;
-    walks = walk_step image pieces at passes.walks framed;
-    each = all-append (IsFeature (header_in image)) pieces (piece_at image at ∷ []) passes.each (piece_feature image (header_in image) at framed clean, tt);
+  pub passes_none : (index : Option Shape) → IsOpen image index → AreNodes image index → Passes image index [] (first_place image index)
+  passes_none index opened nodes = record {
+    opened = opened;
+    nodes = nodes;
+    walks = walk_start image (first_place image index) (open_inside image index opened);
+    each = tt;
+    leaves = leaves_none image index;
   }
 
-  -- at the end of the file, and in a number that the header allows, they are the whole file
-  pub passes_file : {pieces : List (List ℕ)} {at : ℕ} → Passes image pieces at → length image ≤ at → Agrees (told_count image) (length pieces) → IsFile image pieces
-  passes_file {at = at} passes end counted = record {
-    unindexed = passes.unindexed;
-    whole = sym (take_all at image end) ∙ passes.walks.front;
-    each = passes.each;
-    counted = counted;
-  }
+  module _ {index : Option Shape} where
+    -- one more feature, whose buffer breaks no rule, and whose leaf agrees with it
+    pub passes_more : {pieces : List (List ℕ)} {at : ℕ} → Passes image index pieces at → IsFramed image at → ((q : ℕ) (r : Rule) → BreaksBuffer (buffer_at image at) (feature_root (header_in image)) q r → ⊥)
+        → LeafAgrees image index (length pieces) (length (concat pieces)) (own_box (feature_of (header_in image) (buffer_at image at)))
+        → Passes image index (pieces ++ piece_at image at ∷ []) (at + (4 + size_at image at))
+    passes_more {pieces = pieces} {at = at} passes framed clean leaf = record {
+      opened = passes.opened;
+      nodes = passes.nodes;
+      walks = walk_step image (first_place image index) pieces at passes.walks framed;
+      each = all-append (IsFeature (header_in image)) pieces (piece_at image at ∷ []) passes.each (piece_feature image (header_in image) at framed clean, tt);
+      leaves = leaves_more image index pieces (piece_at image at) passes.leaves
+          (subst (λ b. LeafAgrees image index (length pieces) (length (concat pieces)) (own_box (feature_of (header_in image) b))) (sym (piece_buffer image at framed)) leaf);
+    }
 
-  -- they came to the end of the file
-  pub passes_end : {pieces : List (List ℕ)} {at : ℕ} → Passes image pieces at → length image ≤ at → Passes image pieces (length image)
-  passes_end {pieces = pieces} {at = at} passes end = subst (λ n. Passes image pieces n) (let e : at ≡ length image = omega (arith, end, passes.walks.within) in e) passes
+    -- at the end of the file, and in a number that the header allows, they are the whole file
+    pub passes_file : {pieces : List (List ℕ)} {at : ℕ} → Passes image index pieces at → length image ≤ at → Agrees (told_count image) (length pieces) → IsFile image index pieces
+    passes_file {at = at} passes end counted = record {
+      opened = passes.opened;
+      nodes = passes.nodes;
+      whole = sym (take_all at image end) ∙ passes.walks.front;
+      each = passes.each;
+      leaves = passes.leaves;
+      counted = counted;
+    }
 
-  -- they lie between the header's end and the place
-  pub passes_offset : {pieces : List (List ℕ)} {at : ℕ} → Passes image pieces at → header_end image + length (concat pieces) ≡ at
-  passes_offset {pieces = pieces} {at = at} passes = walk_offset image pieces at passes.walks
+    -- they came to the end of the file
+    pub passes_end : {pieces : List (List ℕ)} {at : ℕ} → Passes image index pieces at → length image ≤ at → Passes image index pieces (length image)
+    passes_end {pieces = pieces} {at = at} passes end = subst (λ n. Passes image index pieces n) (let e : at ≡ length image = omega (arith, end, passes.walks.within) in e) passes
 
-  -- each takes four bytes at least
-  pub passes_counted : {pieces : List (List ℕ)} {at : ℕ} → Passes image pieces at → 4 * length pieces ≤ at
-  passes_counted {pieces = pieces} passes = omega (arith, passes_offset passes, pieces_long pieces passes.walks.each)
+    -- they lie between the first feature and the place
+    pub passes_offset : {pieces : List (List ℕ)} {at : ℕ} → Passes image index pieces at → first_place image index + length (concat pieces) ≡ at
+    passes_offset {pieces = pieces} {at = at} passes = walk_offset image (first_place image index) pieces at passes.walks
 
-  -- a whole file passes all its features
-  pub file_passes : {fs : List (List ℕ)} → IsFile image fs → Passes image fs (length image)
-  file_passes {fs = fs} file = record {
-    unindexed = file.unindexed;
-    walks = record {
-      front = take_all (length image) image (omega arith) ∙ file.whole;
-      above = file.unindexed.header.start.inside;
-      within = omega arith;
-      each = framed_all (header_in image) fs file.each;
-    };
-    each = file.each;
-  }
+    -- each takes four bytes at least
+    pub passes_counted : {pieces : List (List ℕ)} {at : ℕ} → Passes image index pieces at → 4 * length pieces ≤ at
+    passes_counted {pieces = pieces} passes = omega (arith, passes_offset passes, pieces_long pieces passes.walks.each)
 
-  -- what was passed is a front of the file's features
-  pub passes_front : {fs ws : List (List ℕ)} {at : ℕ} → IsFile image fs → Passes image ws at → (rest : List (List ℕ)) × (fs ≡ ws ++ rest) × (concat rest ≡ drop at image)
-  passes_front {fs = fs} {ws = ws} {at = at} file passes =
-      let front = walk_front image fs ws (length image) at (file_passes file).walks passes.walks passes.walks.within in
-      (front.0, front.1, front.2 ∙ take_rest image at)
+    -- a whole file passes all its features
+    pub file_passes : {fs : List (List ℕ)} → IsFile image index fs → Passes image index fs (length image)
+    file_passes {fs = fs} file = record {
+      opened = file.opened;
+      nodes = file.nodes;
+      walks = record {
+        front = take_all (length image) image (omega arith) ∙ file.whole;
+        above = open_inside image index file.opened;
+        within = omega arith;
+        each = framed_all (header_in image) fs file.each;
+      };
+      each = file.each;
+      leaves = file.leaves;
+    }
+
+    -- what was passed is a front of the file's features
+    pub passes_front : {fs ws : List (List ℕ)} {at : ℕ} → IsFile image index fs → Passes image index ws at → (rest : List (List ℕ)) × (fs ≡ ws ++ rest) × (concat rest ≡ drop at image)
+    passes_front {fs = fs} {ws = ws} {at = at} file passes =
+        let front = walk_front image (first_place image index) fs ws (length image) at (file_passes file).walks passes.walks passes.walks.within in
+        (front.0, front.1, front.2 ∙ take_rest image at)
 
   -- ## Units that break nothing
 
@@ -95,18 +108,57 @@ module _ (image : List ℕ) where
   pub header_clean : IsHeader image → (q : ℕ) (r : Rule) → BreaksUnit image the_header q r → ⊥
   header_clean header q r (in_header {q = k} {r = rule} start broken) = header.clean k rule broken
 
-  pub index_clean : IsUnindexed image → (q : ℕ) (r : Rule) → BreaksUnit image the_index q r → ⊥
-  index_clean unindexed q r (indexed header has) = let e : true ≡ false = cc (has, unindexed.unindexed) in true≢false e
+  -- the file has an index, and no tree fits into it
+  pub no_tree : (index : Option Shape) → IsOpen image index → has_index (header_in image) ≡ true → ((t : Shape) → IsTree image t → ⊥) → ⊥
+  no_tree index opened has none = by_index index opened.between
+    where
+      by_index : (index : Option Shape) → IsIndex image index → ⊥
+      by_index None (absent absence) = not_both image has absence
+      by_index (Some t) (present presence tree) = none t tree
 
-  -- a feature that was passed
-  pub feature_clean : (pieces : List (List ℕ)) (at k : ℕ) → Passes image pieces at → k < length pieces → (q : ℕ) (r : Rule) → BreaksUnit image (the_feature k) q r → ⊥
-  feature_clean pieces at k passes earlier q r (in_feature {pieces = ws} {at = place} {q = p} {r = rule} unindexed walk early broken) =
-      passed_sound image pieces ws at place passes.walks passes.each walk (walk_earlier image pieces ws at place passes.walks walk earlier) p rule broken
+  tree_clean : (index : Option Shape) (t : Shape) → AreNodes image index → Some t ≡ index → (q : ℕ) (r : Rule) → BreaksTree t (node_in image) (header_end image) q r → ⊥
+  tree_clean index t nodes is = subst (AreNodes image) (sym is) nodes
+
+  pub index_clean : (index : Option Shape) → IsOpen image index → AreNodes image index → (q : ℕ) (r : Rule) → BreaksUnit image the_index q r → ⊥
+  index_clean index opened nodes q r (index_past_end header has none) = no_tree index opened has none
+  index_clean index opened nodes q r (in_tree {t = t} {q = p} {r = rule} other broken) = tree_clean index t nodes (open_same image other opened) p rule broken
+
+  -- where a walk came to a place in front of what was passed, neither the feature there nor its leaf breaks a rule
+  module _ (index : Option Shape) (pieces : List (List ℕ)) (at : ℕ) (passes : Passes image index pieces at) where
+    passed_feature : (other : Option Shape) (ws : List (List ℕ)) (place : ℕ) → IsOpen image other → Walks image (first_place image other) ws place → place < at
+        → (q : ℕ) (r : Rule) → BreaksFeature image place q r → ⊥
+    passed_feature other ws place opened walk early =
+        let walk_here = subst (λ i. Walks image (first_place image i) ws place) (open_same image opened passes.opened) walk in
+        passed_sound image (first_place image index) pieces ws at place passes.walks passes.each walk_here early
+
+    passed_leaf : (t : Shape) (ws : List (List ℕ)) (place : ℕ) → IsOpen image (Some t) → Walks image (first_place image (Some t)) ws place → place < at → length ws < t.leaves
+        → (q : ℕ) (r : Rule) → BreaksLeaf image t (length ws) place q r → ⊥
+    passed_leaf t ws place opened walk early some =
+        let same_index = open_same image opened passes.opened in
+        let walk_here = subst (λ i. Walks image (first_place image i) ws place) same_index walk in
+        let passed = walk_passed image (first_place image index) pieces ws at place passes.walks walk_here early in
+        let framed = passed_one image IsPiece passes.walks.each passed in
+        let agrees = subst (λ i. LeafAgrees image i (length ws) (length (concat ws)) (box_of (header_in image) passed.piece)) (sym same_index) (passes.leaves ws passed.piece passed.rest passed.split) in
+        leaf_sound image t (length ws) place (length (concat ws)) (box_of (header_in image) passed.piece) (walk_offset image (first_place image (Some t)) ws place walk)
+        (ap (λ b. own_box (feature_of (header_in image) b)) (buffer_there image place passed.piece passed.after passed.stands framed)) some agrees
+
+    walk_before : (other : Option Shape) (ws : List (List ℕ)) (place : ℕ) → IsOpen image other → Walks image (first_place image other) ws place → length ws < length pieces → place < at
+    walk_before other ws place opened walk fewer =
+        walk_earlier image (first_place image index) pieces ws at place passes.walks (subst (λ i. Walks image (first_place image i) ws place) (open_same image opened passes.opened) walk) fewer
+
+    -- a feature that was passed
+    pub feature_clean : (k : ℕ) → k < length pieces → (q : ℕ) (r : Rule) → BreaksUnit image (the_feature k) q r → ⊥
+    feature_clean k earlier q r (in_feature {index = other} {pieces = ws} {at = place} {q = p} {r = rule} opened walk early broken) =
+        passed_feature other ws place opened walk (walk_before other ws place opened walk earlier) p rule broken
+    feature_clean k earlier q r (at_leaf {t = t} {pieces = ws} {at = place} {q = p} {r = rule} opened walk early some broken) =
+        passed_leaf t ws place opened walk (walk_before (Some t) ws place opened walk earlier) some p rule broken
 
   -- any feature, where all were passed
-  all_clean : (pieces : List (List ℕ)) (k : ℕ) → Passes image pieces (length image) → (q : ℕ) (r : Rule) → BreaksUnit image (the_feature k) q r → ⊥
-  all_clean pieces k passes q r (in_feature {pieces = ws} {at = place} {q = p} {r = rule} unindexed walk early broken) =
-      passed_sound image pieces ws (length image) place passes.walks passes.each walk early p rule broken
+  all_clean : (index : Option Shape) (pieces : List (List ℕ)) (k : ℕ) → Passes image index pieces (length image) → (q : ℕ) (r : Rule) → BreaksUnit image (the_feature k) q r → ⊥
+  all_clean index pieces k passes q r (in_feature {index = other} {pieces = ws} {at = place} {q = p} {r = rule} opened walk early broken) =
+      passed_feature index pieces (length image) passes other ws place opened walk early p rule broken
+  all_clean index pieces k passes q r (at_leaf {t = t} {pieces = ws} {at = place} {q = p} {r = rule} opened walk early some broken) =
+      passed_leaf index pieces (length image) passes t ws place opened walk early some p rule broken
 
   -- ## The first broken unit
 
@@ -131,19 +183,19 @@ module _ (image : List ℕ) where
   none_before_index header (the_feature k) is = absurd (not_earlier (the_feature k) the_index is (omega arith) (omega arith))
   none_before_index header the_end is = absurd (not_earlier the_end the_index is (omega arith) (omega arith))
 
-  none_before_feature : (pieces : List (List ℕ)) (at : ℕ) → Passes image pieces at → IsFirst (the_feature (length pieces))
-  none_before_feature pieces at passes the_start is = start_clean passes.unindexed.header.start
-  none_before_feature pieces at passes the_header is = header_clean passes.unindexed.header
-  none_before_feature pieces at passes the_index is = index_clean passes.unindexed
-  none_before_feature pieces at passes (the_feature k) is = feature_clean pieces at k passes (earlier_feature k (length pieces) is)
-  none_before_feature pieces at passes the_end is = absurd (not_earlier the_end (the_feature (length pieces)) is (omega arith) (omega arith))
+  none_before_feature : (index : Option Shape) (pieces : List (List ℕ)) (at : ℕ) → Passes image index pieces at → IsFirst (the_feature (length pieces))
+  none_before_feature index pieces at passes the_start is = start_clean passes.opened.header.start
+  none_before_feature index pieces at passes the_header is = header_clean passes.opened.header
+  none_before_feature index pieces at passes the_index is = index_clean index passes.opened passes.nodes
+  none_before_feature index pieces at passes (the_feature k) is = feature_clean index pieces at passes k (earlier_feature k (length pieces) is)
+  none_before_feature index pieces at passes the_end is = absurd (not_earlier the_end (the_feature (length pieces)) is (omega arith) (omega arith))
 
-  none_before_end : (pieces : List (List ℕ)) → Passes image pieces (length image) → IsFirst the_end
-  none_before_end pieces passes the_start is = start_clean passes.unindexed.header.start
-  none_before_end pieces passes the_header is = header_clean passes.unindexed.header
-  none_before_end pieces passes the_index is = index_clean passes.unindexed
-  none_before_end pieces passes (the_feature k) is = all_clean pieces k passes
-  none_before_end pieces passes the_end is = absurd (not_earlier the_end the_end is (omega arith) (omega arith))
+  none_before_end : (index : Option Shape) (pieces : List (List ℕ)) → Passes image index pieces (length image) → IsFirst the_end
+  none_before_end index pieces passes the_start is = start_clean passes.opened.header.start
+  none_before_end index pieces passes the_header is = header_clean passes.opened.header
+  none_before_end index pieces passes the_index is = index_clean index passes.opened passes.nodes
+  none_before_end index pieces passes (the_feature k) is = all_clean index pieces k passes
+  none_before_end index pieces passes the_end is = absurd (not_earlier the_end the_end is (omega arith) (omega arith))
 
   pub first_start : {q : ℕ} {r : Rule} → BreaksUnit image the_start q r → BreaksFirst image (record { place = q; rule = r })
   first_start broken = record { unit = the_start; broken = broken; first = none_before_start }
@@ -151,44 +203,36 @@ module _ (image : List ℕ) where
   pub first_header : {q : ℕ} {r : Rule} → IsStart image → BreaksUnit image the_header q r → BreaksFirst image (record { place = q; rule = r })
   first_header start broken = record { unit = the_header; broken = broken; first = none_before_header start }
 
-  pub first_index : IsHeader image → has_index (header_in image) ≡ true → BreaksFirst image (record { place = header_end image; rule = Indexed })
-  first_index header has = record { unit = the_index; broken = indexed header has; first = none_before_index header }
+  pub first_index : {q : ℕ} {r : Rule} → IsHeader image → BreaksUnit image the_index q r → BreaksFirst image (record { place = q; rule = r })
+  first_index header broken = record { unit = the_index; broken = broken; first = none_before_index header }
 
-  pub first_feature : {pieces : List (List ℕ)} {at q : ℕ} {r : Rule} → Passes image pieces at → at < length image → BreaksFeature image at q r → BreaksFirst image (record { place = q; rule = r })
-  first_feature {pieces = pieces} {at = at} passes early broken = record {
+  -- a refusal of a node
+  pub first_tree : {t : Shape} {e : Broken} → IsOpen image (Some t) → BreaksTree t (node_in image) (header_end image) e.place e.rule → BreaksFirst image e
+  first_tree opened broken = first_index opened.header (in_tree opened broken)
+
+  module _ {index : Option Shape} {pieces : List (List ℕ)} where
+    pub first_feature : {at q : ℕ} {r : Rule} → Passes image index pieces at → at < length image → BreaksFeature image at q r → BreaksFirst image (record { place = q; rule = r })
+    first_feature {at = at} passes early broken = record {
+      unit = the_feature (length pieces);
+      broken = in_feature passes.opened passes.walks early broken;
+      first = none_before_feature index pieces at passes;
+    }
+
+    pub first_end : {q : ℕ} {r : Rule} → Passes image index pieces (length image) → BreaksCount image (first_place image index) pieces q r → BreaksFirst image (record { place = q; rule = r })
+    first_end passes broken = record {
+      unit = the_end;
+      broken = at_end passes.opened passes.walks broken;
+      first = none_before_end index pieces passes;
+    }
+
+  -- a refusal of a leaf
+  pub first_leaf : {t : Shape} {pieces : List (List ℕ)} {at q : ℕ} {r : Rule} → Passes image (Some t) pieces at → at < length image → length pieces < t.leaves → BreaksLeaf image t (length pieces) at q r
+      → BreaksFirst image (record { place = q; rule = r })
+  first_leaf {t = t} {pieces = pieces} {at = at} passes early some broken = record {
     unit = the_feature (length pieces);
-    broken = in_feature passes.unindexed passes.walks early broken;
-    first = none_before_feature pieces at passes;
+    broken = at_leaf passes.opened passes.walks early some broken;
+    first = none_before_feature (Some t) pieces at passes;
   }
-
-  -- a refusal of a feature's buffer
-  pub first_refused : {pieces : List (List ℕ)} {at : ℕ} (base : ℕ) (buffer : List ℕ) (e : Broken) → Passes image pieces at → at < length image → IsFramed image at → buffer ≡ buffer_at image at → base ≡ at + 4
-      → Names base (BreaksBuffer buffer (feature_root (header_in image))) e → BreaksFirst image e
-  first_refused {at = at} base buffer e passes early framed held place named =
-      let broken : BreaksBuffer (buffer_at image at) (feature_root (header_in image)) named.0 e.rule = subst (λ b. BreaksBuffer b (feature_root (header_in image)) named.0 e.rule) held named.2 in
-      let at_e : at + 4 + named.0 ≡ e.place = omega (arith, named.1, place) in
-      subst (λ n. BreaksFirst image (record { place = n; rule = e.rule })) at_e (first_feature passes early (in_buffer framed broken))
-
-  pub first_end : {pieces : List (List ℕ)} {q : ℕ} {r : Rule} → Passes image pieces (length image) → BreaksCount image pieces q r → BreaksFirst image (record { place = q; rule = r })
-  first_end {pieces = pieces} passes broken = record {
-    unit = the_end;
-    broken = at_end passes.unindexed passes.walks broken;
-    first = none_before_end pieces passes;
-  }
-
-  -- the file ends behind fewer features than the header says, or goes on behind as many
-  pub first_few : {pieces : List (List ℕ)} → Passes image pieces (length image) → length pieces < told_count image → BreaksFirst image (record { place = length image; rule = FeatureCount })
-  first_few passes few = first_end passes (too_few few)
-
-  pub first_many : {pieces ws : List (List ℕ)} {at : ℕ} → Passes image pieces (length image) → Passes image ws at → at < length image → 0 < told_count image → length ws ≡ told_count image
-      → BreaksFirst image (record { place = at; rule = FeatureCount })
-  first_many {pieces = pieces} {ws = ws} {at = at} passes told early some counted =
-      let front = walk_front image pieces ws (length image) at passes.walks told.walks told.walks.within in
-      let behind : 0 < length front.0 = some_piece front.0 (omega (arith, ap length (front.2 ∙ take_rest image at), length-drop at image, early)) in
-      let more : told_count image < length pieces = omega (arith, ap length front.1, length-append ws front.0, behind, counted) in
-      let part : take (told_count image) pieces ≡ ws = ap (take (told_count image)) front.1 ∙ take_at ws front.0 (told_count image) counted in
-      let place : header_end image + length (concat (take (told_count image) pieces)) ≡ at = ap (λ ps. header_end image + length (concat ps)) part ∙ passes_offset told in
-      subst (λ n. BreaksFirst image (record { place = n; rule = FeatureCount })) place (first_end passes (too_many some more))
 
   pub first_breaks : {e : Broken} → BreaksFirst image e → BreaksFile image e.place e.rule
   first_breaks is = record { unit = is.unit; broken = is.broken }
@@ -205,26 +249,27 @@ module _ (image : List ℕ) where
   -- ## Whole files
 
   -- a walk to the end has passed all of the file's features
-  walked_all : (fs ws : List (List ℕ)) → IsFile image fs → Walks image ws (length image) → fs ≡ ws
-  walked_all fs ws file walk =
+  walked_all : (index other : Option Shape) (fs ws : List (List ℕ)) → IsFile image index fs → IsOpen image other → Walks image (first_place image other) ws (length image) → fs ≡ ws
+  walked_all index other fs ws file opened walk =
       let passes = file_passes file in
-      let front = walk_front image fs ws (length image) (length image) passes.walks walk (omega arith) in
+      let walk_here = subst (λ i. Walks image (first_place image i) ws (length image)) (open_same image opened file.opened) walk in
+      let front = walk_front image (first_place image index) fs ws (length image) (length image) passes.walks walk_here (omega arith) in
       let empty = no_more front.0 (all-rest IsPiece ws front.0 (subst (λ xs. AllByRecursion IsPiece xs) front.1 passes.walks.each))
       (omega (arith, ap length (front.2 ∙ take_rest image (length image)), length-drop (length image) image)) in
       front.1 ∙ ap (λ xs. ws ++ xs) empty ∙ append-nil ws
 
-  -- a file has one list of features
-  pub files_same : {fs gs : List (List ℕ)} → IsFile image fs → IsFile image gs → fs ≡ gs
-  files_same {fs = fs} {gs = gs} file other = walked_all fs gs file (file_passes other).walks
+  -- a file has one index, or none, and one list of features
+  pub files_same : {i j : Option Shape} {fs gs : List (List ℕ)} → IsFile image i fs → IsFile image j gs → (i ≡ j) × (fs ≡ gs)
+  files_same {i = i} {j = j} {fs = fs} {gs = gs} file other = (open_same image file.opened other.opened, walked_all i j fs gs file other.opened (file_passes other).walks)
 
   -- its number agrees with the header
-  count_clean : (fs : List (List ℕ)) → IsFile image fs → (q : ℕ) (r : Rule) → BreaksUnit image the_end q r → ⊥
-  count_clean fs file q r (at_end {pieces = ws} {q = k} {r = rule} unindexed walk broken) = by_count k rule broken
+  count_clean : (index : Option Shape) (fs : List (List ℕ)) → IsFile image index fs → (q : ℕ) (r : Rule) → BreaksUnit image the_end q r → ⊥
+  count_clean index fs file q r (at_end {index = other} {pieces = ws} {q = k} {r = rule} opened walk broken) = by_count k rule broken
     where
       many : length fs ≡ length ws
-      many = ap length (walked_all fs ws file walk)
+      many = ap length (walked_all index other fs ws file opened walk)
 
-      by_count : (q : ℕ) (r : Rule) → BreaksCount image ws q r → ⊥
+      by_count : (q : ℕ) (r : Rule) → BreaksCount image (first_place image other) ws q r → ⊥
       by_count q r (too_few few) = elim (agrees_tells file.counted) [
         | inl none ↦ omega (arith, none, few)
         | inr all ↦ omega (arith, all, few, many)
@@ -235,12 +280,12 @@ module _ (image : List ℕ) where
       ]
 
   -- a whole file breaks no rule anywhere
-  pub file_sound : {fs : List (List ℕ)} → IsFile image fs → (q : ℕ) (r : Rule) → BreaksFile image q r → ⊥
-  file_sound {fs = fs} file q r breaks = in_unit breaks.unit breaks.broken
+  pub file_sound : {index : Option Shape} {fs : List (List ℕ)} → IsFile image index fs → (q : ℕ) (r : Rule) → BreaksFile image q r → ⊥
+  file_sound {index = index} {fs = fs} file q r breaks = in_unit breaks.unit breaks.broken
     where
       in_unit : (unit : Unit) → BreaksUnit image unit q r → ⊥
-      in_unit the_start broken = start_clean file.unindexed.header.start q r broken
-      in_unit the_header broken = header_clean file.unindexed.header q r broken
-      in_unit the_index broken = index_clean file.unindexed q r broken
-      in_unit (the_feature k) broken = all_clean fs k (file_passes file) q r broken
-      in_unit the_end broken = count_clean fs file q r broken
+      in_unit the_start broken = start_clean file.opened.header.start q r broken
+      in_unit the_header broken = header_clean file.opened.header q r broken
+      in_unit the_index broken = index_clean index file.opened file.nodes q r broken
+      in_unit (the_feature k) broken = all_clean index fs k (file_passes file) q r broken
+      in_unit the_end broken = count_clean index fs file q r broken

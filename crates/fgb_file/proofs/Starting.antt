@@ -1,17 +1,18 @@
 -- What is refused in front of all features, said of the file and of its first twelve bytes.
 use Rattle.std.proofs.Common.{◌≡◌, ◌⊎◌, ℕ, ◌+◌, ◌^◌, ◌≤◌, ◌<◌, true, List, length, get_or, take, drop, slice_range, slice_index, sym, ap, subst, ◌∙◌, arith, length-take, length-drop}
-use Rattle.std.proofs.lemmas.List.{take-append-drop, take-take, drop-take, get_or-take, take_all}
+use Rattle.std.proofs.lemmas.List.{take-append-drop, take-take, drop-take, get_or-take}
 use Rattle.flat_layout.specs.declared.Rule.{Rule}
-use Rattle.flat_layout.specs.declared.Rule.TheVariants.{FileSize, Short, Magic, HeaderSize, Indexed}
+use Rattle.flat_layout.specs.declared.Rule.TheVariants.{FileSize, Short, Magic, HeaderSize, IndexPastEnd}
 use Rattle.flat_layout.specs.declared.Broken.{Broken}
 use Rattle.flat_layout.specs.Layout.{number_at}
 use Rattle.flat_layout.specs.Promises.{Names}
 use Rattle.fgb_schema.specs.Paths.{header_root}
 use Rattle.fgb_schema.specs.Weights.{BreaksBuffer}
+use Rattle.level_bounds.specs.Levels.{Shape}
 use Rattle.fgb_schema.specs.Headers.{has_index}
-use Rattle.fgb_file.specs.File.{magic, header_size, header_end, header_buffer, header_in, IsSized, IsStart, IsHeader, Differs, BreaksUnit, the_start, file_size, short, magic_byte, header_size_past, in_header, BreaksInFront}
+use Rattle.fgb_file.specs.File.{magic, header_size, header_end, header_buffer, header_in, IsSized, IsStart, IsHeader, IsTree, Differs, BreaksUnit, the_start, file_size, short, magic_byte, header_size_past, in_header, index_past_end, BreaksInFront}
 use Rattle.fgb_file.proofs.Bytes.{slice_is, number_at-append, number_at-drop}
-use Rattle.fgb_file.proofs.Passing.{start_clean, first_start, first_header, first_index}
+use Rattle.fgb_file.proofs.Passing.{start_clean, first_start, first_header, first_index, no_tree}
 
 number_at-take : (n p k : ℕ) (b : List ℕ) → n ≤ k → p + k ≤ length b → number_at n (take (p + k) b) p ≡ number_at n b p
 number_at-take n p k b small fits =
@@ -24,7 +25,7 @@ number_at-take n p k b small fits =
 module _ (image : List ℕ) where
   -- a broken start, or header, leaves no feature to be reached
   front_start : {q : ℕ} {r : Rule} → BreaksUnit image the_start q r → BreaksInFront image (record { place = q; rule = r })
-  front_start {q = q} {r = r} broken = record { first = first_start image broken; unreached = λ is. start_clean image is.header.start q r broken }
+  front_start {q = q} {r = r} broken = record { first = first_start image broken; unreached = λ index is. start_clean image is.header.start q r broken }
 
   pub front_size : 2 ^ 48 < length image → BreaksInFront image (record { place = 0; rule = FileSize })
   front_size long = front_start (file_size long)
@@ -41,11 +42,12 @@ module _ (image : List ℕ) where
   pub front_header : {q : ℕ} {r : Rule} → IsStart image → BreaksBuffer (header_buffer image) header_root q r → BreaksInFront image (record { place = 12 + q; rule = r })
   front_header {q = q} {r = r} start broken = record {
     first = first_header image start (in_header start broken);
-    unreached = λ is. is.header.clean q r broken;
+    unreached = λ index is. is.header.clean q r broken;
   }
 
-  pub front_index : IsHeader image → has_index (header_in image) ≡ true → BreaksInFront image (record { place = header_end image; rule = Indexed })
-  front_index header has = record { first = first_index image header has; unreached = λ is. let absent = is.unindexed in cc }
+  -- the file has an index, and no tree fits into it
+  pub front_past_end : IsHeader image → has_index (header_in image) ≡ true → ((t : Shape) → IsTree image t → ⊥) → BreaksInFront image (record { place = header_end image; rule = IndexPastEnd })
+  front_past_end header has none = record { first = first_index image header (index_past_end header has none); unreached = λ index is. no_tree image index is has none }
 
   -- a refusal of the header's buffer
   pub front_refused : (buffer : List ℕ) (e : Broken) → IsStart image → buffer ≡ header_buffer image → Names 12 (BreaksBuffer buffer header_root) e → BreaksInFront image e
@@ -90,7 +92,3 @@ module _ (image start : List ℕ) (twelve : length start ≡ 12) (long : 12 ≤ 
     },
     same ∙ start_number,
   )
-
--- the number in the last four bytes of the start
-pub last_number : (start : List ℕ) → length start ≡ 12 → number_at 4 (take 4 (drop 8 start)) 0 ≡ number_at 4 start 8
-last_number start twelve = ap (λ s. number_at 4 s 0) (take_all 4 (drop 8 start) (omega (arith, length-drop 8 start))) ∙ number_at-drop 4 8 start

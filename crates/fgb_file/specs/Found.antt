@@ -1,11 +1,11 @@
 -- The features that a query finds, and the lines that it writes of them.
-use Rattle.std.specs.Prelude.{ℕ, ◌+◌, ◌-◌, List, [], ◌∷◌, ◌++◌, length, decimal, slice_range}
+use Rattle.std.specs.Prelude.{ℕ, ◌+◌, ◌-◌, List, [], ◌∷◌, ◌++◌, length, decimal}
 use Rattle.std.specs.List.{filter, flat_map}
 use Rattle.order_keys.specs.declared.bounds.Bounds.{Bounds}
 use Rattle.order_keys.specs.Keys.{digits_of}
 use Rattle.order_keys.specs.Boxes.{meets}
 use Rattle.fgb_schema.specs.Headers.{Header}
-use Rattle.fgb_schema.specs.Features.{feature_of, own_box}
+use Rattle.fgb_file.specs.File.{box_of}
 
 -- a feature of a file: its number, the place of its size prefix from the first feature on, the size of its buffer,
 -- and its own box
@@ -14,10 +14,6 @@ pub record Entry : Type 0 where
   pub offset : ℕ
   pub size : ℕ
   pub own : Bounds
-
--- the box of the feature in a piece, which is a size prefix and a buffer, under a header
-abbrev pub box_of : Header → List ℕ → Bounds
-box_of header piece = own_box (feature_of header (slice_range piece 4 (length piece)))
 
 -- all features of a file, the first of these with this number and offset
 abbrev pub entries : Header → ℕ → ℕ → List (List ℕ) → List Entry

@@ -7,16 +7,18 @@
 //! when they run.
 #![tactic(auto)]
 
-ghost use Rattle.std.specs.Prelude.{◌≡◌, ℕ, List};
+ghost use Rattle.std.specs.Prelude.{◌≡◌, ℕ, List, Option};
 ghost use Rattle.flat_layout.specs.declared.Broken.{Broken};
+ghost use Rattle.level_bounds.specs.Levels.{Shape};
 ghost use Rattle.fgb_file.specs.File.{IsValid, IsFile, BreaksFirst};
 
-/// A file breaks no rule exactly where it is a start, a header and features that break none, and then
-/// there is one list of its features.
+/// A file breaks no rule exactly where it is a start, a header, an index where the header says so, and features
+/// that break none, and then there is one such index and one list of its features.
 pub fn files_are_features()
-    ensures whole { (image : List ℕ) → IsValid image → (pieces : List (List ℕ)) × IsFile image pieces }
-    ensures sound { (image : List ℕ) (pieces : List (List ℕ)) → IsFile image pieces → IsValid image }
-    ensures one { (image : List ℕ) (pieces others : List (List ℕ)) → IsFile image pieces → IsFile image others → pieces ≡ others }
+    ensures whole { (image : List ℕ) → IsValid image → (index : Option Shape) × (pieces : List (List ℕ)) × IsFile image index pieces }
+    ensures sound { (image : List ℕ) (index : Option Shape) (pieces : List (List ℕ)) → IsFile image index pieces → IsValid image }
+    ensures one { (image : List ℕ) (index : Option Shape) (pieces : List (List ℕ)) (other : Option Shape) (others : List (List ℕ))
+        → IsFile image index pieces → IsFile image other others → (index ≡ other) × (pieces ≡ others) }
 {}
 
 /// A refusal that names what is broken in the first broken unit comes only of a file that breaks a rule;

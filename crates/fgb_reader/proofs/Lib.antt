@@ -1,6 +1,5 @@
 mod Framing
 mod Filling
-pub mod Stopping
 pub mod Going
 pub mod Whole
 mod Starting

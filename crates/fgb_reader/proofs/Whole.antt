@@ -8,9 +8,7 @@ use Rattle.fgb_outside.proofs.Asking.{range_with_len-append, reads_reads, reads_
 use Rattle.fgb_file.specs.File.{header_size, header_end, IsStart, IsUnindexed, IsDeclared, of_start, of_header, of_features}
 use Rattle.fgb_reader.specs.Starts.{IsOfStart}
 use Rattle.fgb_reader.specs.Requests.{AsksAtMost, AsksAll, AsksFront, mebibytes, requests}
-use Rattle.fgb_reader.specs.Reading.{Fetches, FetchesPart, ahead_of, end_of, first_of}
-use Rattle.fgb_reader.specs.declared.pieces.Pieces.{Pieces}
-use Rattle.fgb_reader.proofs.Going.{asks_on, fetches_all, part_all}
+use Rattle.fgb_reader.proofs.Going.{asks_on}
 
 -- all of some positions is a front of them
 pub whole_front : {P : ℕ × ℕ → Type 0} {s s' : Source} (xs : List ℕ) → Reads P s s' xs → ReadsFront P s s' xs
@@ -86,20 +84,3 @@ module _ (image : List ℕ) (size len : ℕ) (is : length image ≡ size) (start
         reads = all_read unindexed first second third;
         few = subst (λ n. AsksAtMost n s s3) most (asks_on s s2 s3 (1 + mebibytes len) (mebibytes (size - (12 + len))) (asks_on s s1 s2 1 (mebibytes len) one second.keeps few) third.keeps more);
       }
-
-  -- the same of pieces that go through the features
-  module _ (p p' : Pieces) (first : first_of p ≡ 12 + len) (end : end_of p ≡ size) (begins : ahead_of p ≡ first_of p) where
-    pub front_by_pieces : {s s1 s2 s3 : Source} → IsUnindexed image → Reads (IsOfStart size) s s1 (range_with_len 0 12) → Reads (IsInside 12 (12 + len)) s1 s2 (range_with_len 12 len) → FetchesPart p p' s2 s3 → AsksFront image s s3
-    front_by_pieces {s2 = s2} {s3 = s3} unindexed start_reads header_reads f =
-        front_in_features unindexed start_reads header_reads
-        (subst (λ n. ReadsFront (IsInside (12 + len) n) s2 s3 (range_with_len (12 + len) (n - (12 + len)))) end
-        (subst (λ n. ReadsFront (IsInside n (end_of p)) s2 s3 (range_with_len n (end_of p - n))) first (part_all p p' s2 s3 begins f)))
-
-    pub all_by_pieces : {s s1 s2 s3 : Source} → IsUnindexed image → Reads (IsOfStart size) s s1 (range_with_len 0 12) → AsksAtMost 1 s s1 → Reads (IsInside 12 (12 + len)) s1 s2 (range_with_len 12 len) → AsksAtMost (mebibytes len) s1 s2
-        → Fetches p p' s2 s3 → ahead_of p' ≡ end_of p → AsksAll image s s3
-    all_by_pieces {s2 = s2} {s3 = s3} unindexed start_reads one header_reads few f ends =
-        let all = fetches_all p p' s2 s3 begins ends f in
-        asks_all unindexed start_reads one header_reads few
-        (subst (λ n. Reads (IsInside (12 + len) n) s2 s3 (range_with_len (12 + len) (n - (12 + len)))) end
-        (subst (λ n. Reads (IsInside n (end_of p)) s2 s3 (range_with_len n (end_of p - n))) first all.0))
-        (let few_of : ℕ → ℕ → Type 0 = λ from till. AsksAtMost (mebibytes (till - from)) s2 s3 in subst (few_of (12 + len)) end (subst (λ n. few_of n (end_of p)) first all.1))

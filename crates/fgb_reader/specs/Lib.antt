@@ -1,4 +1,3 @@
-pub mod Stops
 pub mod Requests
 pub mod Starts
 pub mod Filling

@@ -5,12 +5,12 @@ ghost use Rattle.fgb_outside.specs.Source.{IfTold, Rose};
 ghost use Rattle.section_window.specs.Window.{Shows as ShowsWindow};
 ghost use Rattle.fgb_file.specs.File.{BreaksPrefix, IsFramed, size_at};
 ghost use Rattle.fgb_reader.specs.Filling.{Fills, FillsPart};
-ghost use Rattle.fgb_reader.specs.Stops.{IfRefused};
+ghost use Rattle.read_stop.specs.Stops.{IfRefused};
 
-use crate::stop::ReadStop;
 use byteorder::{ByteOrder, LittleEndian};
 use fgb_outside::{RangeSource, SourceError};
 use flat_views::{Broken, Rule};
+use read_stop::ReadStop;
 use section_window::Window;
 use std::alloc::Global;
 

@@ -1,20 +1,24 @@
 // The start and the header of a file.
-ghost use Rattle.std.specs.Prelude.{◌≡◌, ◌+◌, ◌≤◌, ◌^◌, ℕ, List, length, take, slice_range, IfOk, OnOk, OnErr, IsErrOf, MatchResult};
+ghost use Rattle.std.specs.Prelude.{◌≡◌, ◌+◌, ◌*◌, ◌≤◌, ◌^◌, ℕ, List, option_map, is_some, IfSome, length, take, slice_range, IfOk, OnOk, OnErr, IsErrOf, MatchResult};
 ghost use Rattle.std.specs.List.{range_with_len};
 ghost use Rattle.fgb_outside.specs.Source.{HasSize, IfTold, Rose};
 ghost use Rattle.fgb_outside.specs.Asked.{IsInside, Reads, ReadsFront};
+ghost use Rattle.level_bounds.specs.Levels.{node_count};
+ghost use Rattle.level_bounds.specs.Shapes.{shape_of};
 ghost use Rattle.fgb_schema.specs.Headers.{has_index as has_index_of};
 ghost use Rattle.fgb_header.specs.Views.{header_shown};
-ghost use Rattle.fgb_file.specs.File.{BreaksInFront, IsSized, IsStart, IsUnindexed, header_buffer, header_in, header_size};
-ghost use Rattle.fgb_reader.specs.Stops.{IfRefused};
+ghost use Rattle.fgb_file.specs.File.{BreaksInFront, IsHeader, IsOpen, IsSized, IsStart, header_buffer, header_end, header_in, header_size};
+ghost use Rattle.read_stop.specs.Stops.{IfRefused};
 ghost use Rattle.fgb_reader.specs.Requests.{AsksAtMost, mebibytes};
 ghost use Rattle.fgb_reader.specs.Starts.{IsOfStart, ShowsMagic};
 
-use crate::stop::ReadStop;
 use byteorder::{ByteOrder, LittleEndian};
 use fgb_header::HeaderView;
 use fgb_outside::{RangeSource, SourceError};
 use flat_views::{Broken, Rule};
+use level_bounds::Levels;
+use node_items::NODE;
+use read_stop::ReadStop;
 use std::alloc::Global;
 
 /// The bytes of the start: seven magic bytes, one of any value, and the header's size.
@@ -88,28 +92,46 @@ fn wrong_magic(start: &[u8]) -> Option<usize>
     None
 }
 
-/// Reads the header in its buffer, which stands behind the start. Refuses a rule of the header, or Indexed behind
-/// it where the file has an index, which is not read yet.
+/// Reads the header in its buffer, which stands behind the start. Refuses a rule of the header.
 pub fn judge_header<'a>(buffer: &'a [u8]) -> Result<HeaderView<'a>, Broken>
     requires { length buffer.now ≤ 10485760 }
     ensures judged { (image : List ℕ) → IsStart image → buffer.now ≡ header_buffer image
-        → MatchResult result (λ header. IsUnindexed image × (header_shown header ≡ header_in image)) (BreaksInFront image) }
+        → MatchResult result (λ header. IsHeader image × (header_shown header ≡ header_in image)) (BreaksInFront image) }
 {
-    let header = HeaderView::read(buffer, START as u64)?;
-    if has_index(&header) {
-        return Err(Broken {
-            place: (START + buffer.len()) as u64,
-            rule: Rule::Indexed,
-        });
-    }
-    Ok(header)
+    HeaderView::read(buffer, START as u64)
 }
 
 /// Whether a file with this header has an index: the count and the node size are both above 0.
-fn has_index(header: &HeaderView) -> bool
+pub fn has_index(header: &HeaderView) -> bool
     ensures { result ≡ has_index_of (header_shown header.now) }
 {
     header.features_count() > 0 && header.index_node_size() > 0
+}
+
+/// The levels of the index of a file with this header and of this size, or None where it has no index. The index
+/// begins at `place`, behind the header. Refuses IndexPastEnd there where its nodes don't fit into the file.
+pub fn judge_levels(header: &HeaderView, place: u64, size: u64) -> Result<Option<Levels>, Broken>
+    requires order { place ≤ size }
+    requires small { size ≤ 2 ^ 48 }
+    ensures judged { (image : List ℕ) → IsHeader image → header_shown header.now ≡ header_in image → place ≡ header_end image → size ≡ length image
+        → MatchResult result (λ levels. IsOpen image (option_map shape_of levels)) (BreaksInFront image) }
+    ensures fits { IfOk result (λ levels. IfSome levels (λ l. place + 40 * node_count (shape_of l) ≤ size)) }
+    ensures shows { IfOk result (λ levels. is_some levels ≡ has_index_of (header_shown header.now)) }
+{
+    if !has_index(header) {
+        return Ok(None);
+    }
+    let past_end = Broken {
+        place,
+        rule: Rule::IndexPastEnd,
+    };
+    let Some(levels) = Levels::new(header.features_count(), header.index_node_size()) else {
+        return Err(past_end);
+    };
+    if NODE as u64 * levels.nodes() > size - place {
+        return Err(past_end);
+    }
+    Ok(Some(levels))
 }
 
 /// Fills `into` with the bytes from `at` on, and asks for nothing where it is empty.

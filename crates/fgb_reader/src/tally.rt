@@ -19,7 +19,7 @@ impl Tally {
     /// None was counted yet, and the header says this number.
     pub fn new(told: u64) -> Tally
         ensures none { seen_of result ≡ 0 }
-        ensures counts { (image : List ℕ) → told ≡ told_count image → Counts image [] result }
+        ensures counts { (image : List ℕ) (first : ℕ) → told ≡ told_count image → Counts image first [] result }
     {
         Tally {
             told,
@@ -39,8 +39,8 @@ impl Tally {
     pub fn add(&mut self, place: u64)
         requires { seen_of self.old < 2 ^ 48 }
         ensures more { seen_of self.new ≡ seen_of self.old + 1 }
-        ensures counts { (image : List ℕ) (pieces : List (List ℕ)) (piece : List ℕ) → Walks image pieces place
-            → Counts image pieces self.old → Counts image (pieces ++ piece ∷ []) self.new }
+        ensures counts { (image : List ℕ) (first : ℕ) (pieces : List (List ℕ)) (piece : List ℕ) → Walks image first pieces place
+            → Counts image first pieces self.old → Counts image first (pieces ++ piece ∷ []) self.new }
     {
         if self.seen == self.told {
             self.surplus = place;
@@ -51,8 +51,8 @@ impl Tally {
     /// The number of features of a file that ends here. Refuses FeatureCount where the header says another: at
     /// the end where there are too few, else at the first that is too many.
     pub fn judge(self, end: u64) -> Result<u64, Broken>
-        ensures { (image : List ℕ) (pieces : List (List ℕ)) → end ≡ length image → Counts image pieces self
-            → MatchResult result (λ count. Agrees (told_count image) (length pieces) × (count ≡ length pieces)) (λ broken. BreaksCount image pieces broken.place broken.rule) }
+        ensures { (image : List ℕ) (first : ℕ) (pieces : List (List ℕ)) → end ≡ length image → Counts image first pieces self
+            → MatchResult result (λ count. Agrees (told_count image) (length pieces) × (count ≡ length pieces)) (λ broken. BreaksCount image first pieces broken.place broken.rule) }
     {
         if self.seen < self.told {
             return Err(Broken {

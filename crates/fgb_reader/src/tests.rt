@@ -100,3 +100,27 @@ fn features_are_counted(rt: HostRuntime) {
     };
     assert_eq!(rt; tally.judge(300), Err(many));
 }
+
+/// A header of type Point with 179 features and the default node size 16.
+const COUNTED: [u8; 48] = [
+    32, 0, 0, 0, 22, 0, 13, 0, 0, 0, 0, 0, 12, 0, 0, 0, 0, 0, 0, 0, 0, 0, 0, 0, 4, 0, 0, 0, 0, 0,
+    0, 0, 28, 0, 0, 0, 179, 0, 0, 0, 0, 0, 0, 0, 1, 0, 0, 0,
+];
+
+#[test]
+fn an_index_fits_or_not(rt: HostRuntime) -> Result<(), Fail> {
+    let header = judge_header(&COUNTED)?;
+    assert!(rt; has_index(&header));
+    let Some(levels) = judge_levels(&header, 60, 7740)? else {
+        return Err(Fail::new("no index"));
+    };
+    assert_eq!(rt; levels.nodes(), 192);
+    let past_end = Broken {
+        place: 60,
+        rule: Rule::IndexPastEnd,
+    };
+    assert!(rt; judge_levels(&header, 60, 7739).err() == Some(past_end));
+    let header = judge_header(&EMPTY[12..])?;
+    assert!(rt; judge_levels(&header, 36, 36)?.is_none());
+    Ok(())
+}

@@ -1,16 +1,16 @@
 -- How far a walk has come, turn by turn.
-use Rattle.std.proofs.Common.{◌≡◌, ℕ, ◌+◌, ◌≤◌, List, [], length, sym, subst, ◌∙◌, arith}
+use Rattle.std.proofs.Common.{◌≡◌, ℕ, ◌+◌, ◌≤◌, List, [], length, None, sym, subst, ◌∙◌, arith}
 use Rattle.flat_layout.specs.declared.Broken.{Broken}
 use Rattle.fgb_outside.specs.Source.{Source, IfTold}
 use Rattle.fgb_outside.specs.Sink.{Sink}
 use Rattle.fgb_outside.proofs.Shown.{appends_nothing}
-use Rattle.fgb_file.specs.File.{told_count, Agrees, BreaksCount, Passes}
+use Rattle.fgb_file.specs.File.{header_end, told_count, Agrees, BreaksCount, Passes}
 use Rattle.fgb_file.specs.Found.{lines}
 use Rattle.fgb_file.proofs.Passing.{passes_none}
 use Rattle.fgb_reader.specs.Reading.{Shows, StandsIn, RefusesNext, Fetches, IsAtEnd, IsAtNext, ahead_of, end_of, next_of, place_of}
 use Rattle.fgb_reader.specs.Tallies.{Counts, seen_of}
-use Rattle.fgb_reader.specs.Stops.{AtRefusal as AtReadRefusal}
-use Rattle.fgb_reader.specs.declared.stop.ReadStop.{ReadStop}
+use Rattle.read_stop.specs.Stops.{AtRefusal as AtReadRefusal}
+use Rattle.read_stop.specs.declared.stop.ReadStop.{ReadStop}
 use Rattle.fgb_reader.specs.declared.pieces.Pieces.{Pieces}
 use Rattle.fgb_reader.specs.declared.tally.Tally.{Tally}
 use Rattle.fgb_reader.proofs.Going.{fetches_nothing, fetches_on}
@@ -19,7 +19,7 @@ use Rattle.fgb_tool.specs.Walks.{IsSearch, Stands, Ends, Stops}
 use Rattle.fgb_tool.specs.declared.stop.Stop.{Stop}
 use Rattle.fgb_tool.specs.declared.stop.Stop.TheVariants.{Refused}
 use Rattle.fgb_tool.specs.declared.walk.Search.{Search}
-use Rattle.fgb_reader.proofs.Stopping.{refusal_map}
+use Rattle.read_stop.proofs.Stopping.{refusal_map}
 use Rattle.fgb_tool.proofs.Standing.{stops_next, stops_count, ends_of}
 
 -- from the pieces p to q, with so many counted
@@ -30,7 +30,7 @@ pub record Goes (search : Search) (p q : Pieces) (s t : Source) (a b : Sink) (ta
   pub stands : IfTold s (λ image. IsSearch image search (end_of p) → Stands image search.bounds tally (next_of q) a b page)
 
 pub goes_start : (search : Search) (p : Pieces) (s : Source) (a : Sink) (t : Tally) (page : List ℕ) → Shows p s → next_of p ≡ search.first → page ≡ [] → seen_of t ≡ 0
-    → ((image : List ℕ) → IsSearch image search (end_of p) → Counts image [] t) → Goes search p p s s a a t page
+    → ((image : List ℕ) → IsSearch image search (end_of p) → Counts image (header_end image) [] t) → Goes search p p s s a a t page
 unfolding lines
 goes_start search p s a t page shows next empty none counts = record {
   fetches = fetches_nothing p s shows;
@@ -38,7 +38,7 @@ goes_start search p s a t page shows next empty none counts = record {
   later = omega arith;
   stands = λ image told is. record {
     pieces = [];
-    passes = subst (Passes image []) (sym (next ∙ is.first)) (passes_none image is.unindexed);
+    passes = subst (Passes image None []) (sym (next ∙ is.first)) (passes_none image None is.unindexed tt);
     counts = counts image is;
     owes = record { written = []; appends = appends_nothing a; whole = empty };
   };
@@ -85,13 +85,13 @@ module _ (search : Search) (p q : Pieces) (s t : Source) (a b : Sink) (tally : T
       pub all_fetched : ahead_of r ≡ end_of p
       all_fetched = ended.ahead ∙ goes.fetches.end
 
-      pub goes_ends : (end : ℕ) → end ≡ end_of r → ((image : List ℕ) (pieces : List (List ℕ)) → end ≡ length image → Counts image pieces tally → Agrees (told_count image) (length pieces))
+      pub goes_ends : (end : ℕ) → end ≡ end_of r → ((image : List ℕ) (pieces : List (List ℕ)) → end ≡ length image → Counts image (header_end image) pieces tally → Agrees (told_count image) (length pieces))
           → IfTold s (λ image. IsSearch image search (end_of p) → Ends image search.bounds a b page)
       goes_ends end same judged image told is =
           let stands = goes.stands image told is in
           ends_of image search.bounds tally (next_of q) a b page (at_end_of image is) stands (judged image stands.pieces (same ∙ (still image is).whole) stands.counts)
 
-      pub goes_miscounted : (end : ℕ) (broken : Broken) → end ≡ end_of r → ((image : List ℕ) (pieces : List (List ℕ)) → end ≡ length image → Counts image pieces tally → BreaksCount image pieces broken.place broken.rule)
+      pub goes_miscounted : (end : ℕ) (broken : Broken) → end ≡ end_of r → ((image : List ℕ) (pieces : List (List ℕ)) → end ≡ length image → Counts image (header_end image) pieces tally → BreaksCount image (header_end image) pieces broken.place broken.rule)
           → IfTold s (λ image. IsSearch image search (end_of p) → Stops image search.bounds a b page (Refused broken))
       goes_miscounted end broken same judged image told is =
           let stands = goes.stands image told is in

@@ -1,5 +1,5 @@
 -- From a walk over the features, and the last write of its page, to what a search promises.
-use Rattle.std.proofs.Common.{◌≡◌, ℕ, zero, suc, ◌-◌, List, [], ◌∷◌, take, Result, Ok, Err, refl, sym, ap, subst, ◌∙◌}
+use Rattle.std.proofs.Common.{◌≡◌, inl, ℕ, zero, suc, ◌-◌, List, [], ◌∷◌, take, Result, Ok, Err, refl, sym, ap, subst, ◌∙◌}
 use Rattle.std.specs.Prelude.{OnOk, OnErr, IfErr}
 use Rattle.std.specs.List.{range_with_len}
 use Rattle.order_keys.specs.declared.bounds.Bounds.{Bounds}
@@ -71,7 +71,7 @@ module _ (image : List ℕ) (box : Bounds) (o o' o'' : Sink) (page : List ℕ) w
   refuses broken ends written = record {
     pieces = ends.pieces;
     refused = ends.refused;
-    first = ends.first;
+    reason = inl ends.first;
     written = paid o o' o'' page (answer (header_in image) box ends.pieces) ends.owes written;
   }
 

@@ -1,5 +1,5 @@
 -- What stands of a walk after a feature, after a write of the page, and where it stops.
-use Rattle.std.proofs.Common.{◌≡◌, ℕ, ◌+◌, ◌-◌, ◌<◌, true, false, List, [], ◌∷◌, ◌++◌, length, take, sym, ap, subst, ◌∙◌, arith}
+use Rattle.std.proofs.Common.{◌≡◌, ℕ, ◌+◌, ◌-◌, ◌<◌, true, false, List, [], ◌∷◌, ◌++◌, length, take, None, sym, ap, subst, ◌∙◌, arith}
 use Rattle.std.specs.List.{concat}
 use Rattle.std.proofs.lemmas.List.{append-nil, append_assoc, take_all}
 use Rattle.order_keys.specs.declared.bounds.Bounds.{Bounds}
@@ -14,17 +14,17 @@ use Rattle.fgb_outside.specs.Sink.{Sink, Appends, AppendsPart}
 use Rattle.fgb_outside.specs.declared.sinks.SinkError.{SinkError}
 use Rattle.fgb_outside.specs.declared.sinks.SinkError.TheVariants as sink_error
 use Rattle.fgb_outside.proofs.Shown.{appends_appends, take_past}
-use Rattle.fgb_file.specs.File.{header_in, size_at, buffer_at, Walks, BreaksFeature, in_prefix, in_buffer, BreaksCount, Agrees, told_count, Passes}
-use Rattle.fgb_file.specs.Found.{Entry, box_of, line, answer}
+use Rattle.fgb_file.specs.File.{header_in, size_at, buffer_at, header_end, box_of, Walks, BreaksFeature, in_prefix, in_buffer, BreaksCount, Agrees, told_count, Passes}
+use Rattle.fgb_file.specs.Found.{Entry, line, answer}
 use Rattle.fgb_file.proofs.Bytes.{length-slice}
 use Rattle.fgb_file.proofs.Walk.{piece_at, piece_length, piece_buffer}
 use Rattle.fgb_file.proofs.Passing.{passes_more, passes_file, passes_end, passes_offset, first_feature, first_end}
 use Rattle.fgb_file.proofs.Entries.{answer_hit, answer_miss, next_entry}
 use Rattle.fgb_reader.specs.Reading.{StandsIn, RefusesNext, buffer_of, next_of, place_of}
 use Rattle.fgb_reader.specs.Tallies.{Counts}
-use Rattle.fgb_reader.specs.Stops.{AtRefusal as AtReadRefusal}
-use Rattle.fgb_reader.specs.declared.stop.ReadStop.{ReadStop}
-use Rattle.fgb_reader.specs.declared.stop.ReadStop.TheVariants as read_stop
+use Rattle.read_stop.specs.Stops.{AtRefusal as AtReadRefusal}
+use Rattle.read_stop.specs.declared.stop.ReadStop.{ReadStop}
+use Rattle.read_stop.specs.declared.stop.ReadStop.TheVariants as read_stop
 use Rattle.fgb_reader.specs.declared.pieces.Pieces.{Pieces}
 use Rattle.fgb_reader.specs.declared.tally.Tally.{Tally}
 use Rattle.fgb_tool.specs.Pages.{Owes}
@@ -42,7 +42,7 @@ use Rattle.fgb_tool.proofs.Exits.{refusal_map}
 pub record Adds (image : List ℕ) (box : Bounds) (at number : ℕ) (page page' : List ℕ) : Type 0 where
   pub more : List ℕ
   pub added : page' ≡ page ++ more
-  pub answers : (pieces : List (List ℕ)) → Passes image pieces at → number ≡ length pieces → answer (header_in image) box (pieces ++ piece_at image at ∷ []) ≡ answer (header_in image) box pieces ++ more
+  pub answers : (pieces : List (List ℕ)) → Passes image None pieces at → number ≡ length pieces → answer (header_in image) box (pieces ++ piece_at image at ∷ []) ≡ answer (header_in image) box pieces ++ more
 
 entry_same : (e f : Entry) → e.number ≡ f.number → e.offset ≡ f.offset → e.size ≡ f.size → e.own ≡ f.own → e ≡ f
 entry_same e f number offset size own =
@@ -89,7 +89,7 @@ module _ (image : List ℕ) (search : Search) (end : ℕ) (is : IsSearch image s
 
     -- it breaks no rule
     pub stands_more : (t t' : Tally) (o o' : Sink) (page page' : List ℕ) → IsClean (BreaksBuffer buffer (feature_root (header_shown search.header.now)))
-        → ((pieces : List (List ℕ)) (piece : List ℕ) → Walks image pieces (place_of p) → Counts image pieces t → Counts image (pieces ++ piece ∷ []) t')
+        → ((pieces : List (List ℕ)) (piece : List ℕ) → Walks image (header_end image) pieces (place_of p) → Counts image (header_end image) pieces t → Counts image (header_end image) (pieces ++ piece ∷ []) t')
         → Adds image search.bounds (place_of p) t.seen page page' → Stands image search.bounds t (place_of p) o o' page → Stands image search.bounds t' (next_of p) o o' page'
     stands_more t t' o o' page page' clean counts adds stands =
         let at = place_of p in
@@ -98,7 +98,7 @@ module _ (image : List ℕ) (search : Search) (end : ℕ) (is : IsSearch image s
         let next : at + (4 + size_at image at) ≡ next_of p = ap (λ n. at + n) (sym lent.len) in
         record {
           pieces = stands.pieces ++ piece_at image at ∷ [];
-          passes = subst (Passes image (stands.pieces ++ piece_at image at ∷ [])) next (passes_more image stands.passes lent.framed buffer_clean);
+          passes = subst (Passes image None (stands.pieces ++ piece_at image at ∷ [])) next (passes_more image stands.passes lent.framed buffer_clean tt);
           counts = counts stands.pieces (piece_at image at) stands.passes.walks stands.counts;
           owes = record {
             written = stands.owes.written;
@@ -199,9 +199,9 @@ module _ (image : List ℕ) (box : Bounds) where
   stops_next p t o o' page read_stop.Memory stop cause none stands = subst (Stops image box o o' page) (sym cause) (stops_unrefused t (next_of p) o o' page Memory tt stands)
 
   -- at the end of the file, where their number is wrong
-  pub stops_count : (t : Tally) (at : ℕ) (o o' : Sink) (page : List ℕ) (broken : Broken) → length image ≡ at → (stands : Stands image box t at o o' page) → BreaksCount image stands.pieces broken.place broken.rule → Stops image box o o' page (Refused broken)
+  pub stops_count : (t : Tally) (at : ℕ) (o o' : Sink) (page : List ℕ) (broken : Broken) → length image ≡ at → (stands : Stands image box t at o o' page) → BreaksCount image (header_end image) stands.pieces broken.place broken.rule → Stops image box o o' page (Refused broken)
   stops_count t at o o' page broken whole stands breaks =
-      let passes : Passes image stands.pieces (length image) = passes_end image stands.passes (omega (arith, whole)) in
+      let passes : Passes image None stands.pieces (length image) = passes_end image stands.passes (omega (arith, whole)) in
       record {
         part = stands_part t at o o' page stands;
         refused = record { pieces = stands.pieces; refused = at_end passes breaks; first = first_end image passes breaks; owes = stands.owes };

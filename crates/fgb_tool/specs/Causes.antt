@@ -1,7 +1,7 @@
 -- Why the work stops.
 use Rattle.std.specs.Prelude.{◌≡◌, ⊤, Result, IfErr}
-use Rattle.fgb_reader.specs.declared.stop.ReadStop.{ReadStop}
-use Rattle.fgb_reader.specs.declared.stop.ReadStop.TheVariants as read_stop
+use Rattle.read_stop.specs.declared.stop.ReadStop.{ReadStop}
+use Rattle.read_stop.specs.declared.stop.ReadStop.TheVariants as read_stop
 use Rattle.fgb_check.specs.declared.verdict.CheckError.{CheckError}
 use Rattle.fgb_check.specs.declared.verdict.CheckError.TheVariants as check_error
 use Rattle.fgb_outside.specs.declared.sinks.SinkError.{SinkError}

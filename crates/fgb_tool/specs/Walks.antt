@@ -1,5 +1,5 @@
 -- A walk over the features: what is sought, what stands so far, and where it ends.
-use Rattle.std.specs.Prelude.{◌≡◌, ℕ, List, length, take}
+use Rattle.std.specs.Prelude.{◌≡◌, ℕ, List, length, take, None}
 use Rattle.order_keys.specs.declared.bounds.Bounds.{Bounds}
 use Rattle.flat_layout.specs.declared.Broken.{Broken}
 use Rattle.fgb_header.specs.Views.{header_shown}
@@ -25,21 +25,21 @@ pub record IsSearch (image : List ℕ) (search : Search) (end : ℕ) : Type 0 wh
 -- page
 pub record Stands (image : List ℕ) (box : Bounds) (tally : Tally) (at : ℕ) (o o' : Sink) (page : List ℕ) : Type 0 where
   pub pieces : List (List ℕ)
-  pub passes : Passes image pieces at
-  pub counts : Counts image pieces tally
+  pub passes : Passes image None pieces at
+  pub counts : Counts image (header_end image) pieces tally
   pub owes : Owes o o' page (answer (header_in image) box pieces)
 
 -- all features were passed, and the file breaks no rule
 pub record Ends (image : List ℕ) (box : Bounds) (o o' : Sink) (page : List ℕ) : Type 0 where
   pub pieces : List (List ℕ)
-  pub file : IsFile image pieces
+  pub file : IsFile image None pieces
   pub owes : Owes o o' page (answer (header_in image) box pieces)
 
 -- some were passed, and a front of the lines of the found ones was written or stands on the page
 pub record EndsPart (image : List ℕ) (box : Bounds) (o o' : Sink) (page : List ℕ) : Type 0 where
   pub pieces : List (List ℕ)
   pub at : ℕ
-  pub passes : Passes image pieces at
+  pub passes : Passes image None pieces at
   pub many : ℕ
   pub owes : Owes o o' page (take many (answer (header_in image) box pieces))
 

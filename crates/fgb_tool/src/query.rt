@@ -12,12 +12,14 @@ use crate::page::Page;
 use crate::stop::{Stop, is_cut_off};
 use crate::walk::{Search, walk};
 use fgb_outside::{RangeSource, Sink};
-use fgb_reader::{Pieces, START, judge_header, read_header, read_start};
+use fgb_reader::{Pieces, START, has_index, judge_header, read_header, read_start};
+use flat_views::{Broken, Rule};
 use order_keys::Bounds;
 use std::alloc::Global;
 
 /// Writes a line of each feature whose own box meets the bounds, in file order, and reads the file once, front
-/// to back. At a refusal the lines of the features before it were written.
+/// to back. At a refusal the lines of the features before it were written. A file with an index is refused behind its
+/// header, since a query does not read one yet.
 pub(crate) fn query<S: RangeSource, W: Sink>(
     alloc: Global,
     bounds: Bounds,
@@ -36,10 +38,17 @@ pub(crate) fn query<S: RangeSource, W: Sink>(
     let len = read_start(file, size)?;
     let buffer = read_header(alloc, file, len)?;
     let header = judge_header(&buffer)?;
+    let first = (START + len) as u64;
+    if has_index(&header) {
+        return Err(Stop::Refused(Broken {
+            place: first,
+            rule: Rule::Indexed,
+        }));
+    }
     let sought = Search {
         header: &header,
         bounds,
-        first: (START + len) as u64,
+        first,
     };
     search(alloc, &sought, size, file, out)
 }

@@ -1,5 +1,8 @@
 // What the calls answer on files by hand, each as a reader of the format's document would lay it.
 use super::*;
+
+mod indexed;
+
 use fgb_outside::{MemorySink, MemorySource};
 use std::alloc::{AllocError, Global};
 use std::process::Abort;

@@ -6,7 +6,7 @@ pub returns-clause-whole : goal.returns-clause-whole
 returns-clause-whole c = λ image valid. valid_file image valid
 
 pub returns-clause-sound : goal.returns-clause-sound
-returns-clause-sound c = λ image pieces file. file_sound image file
+returns-clause-sound c = λ image index pieces file. file_sound image file
 
 pub returns-clause-one : goal.returns-clause-one
-returns-clause-one c = λ image pieces others file other. files_same image file other
+returns-clause-one c = λ image index pieces other others file also. files_same image file also

@@ -1,5 +1,5 @@
-use Rattle.fgb_reader.proofs.Whole.{whole_front}
+use Rattle.fgb_check.proofs.Declared.{accepted_front}
 use Rattle.fgb_check.proofs.source.check.Goals as goal
 
 pub returns-in-Ok-clause-front : goal.returns-in-Ok-clause-front
-returns-in-Ok-clause-front g c = λ image told. whole_front _ (c.in-Ok.ensures.asked image told).reads
+returns-in-Ok-clause-front g c = λ image told none. let whole = c.in-Ok.ensures.file image told in accepted_front image _ _ whole.index whole.file.file.opened none (c.in-Ok.ensures.asked image told)

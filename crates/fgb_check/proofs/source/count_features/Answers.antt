@@ -1,6 +1,6 @@
 use Rattle.std.proofs.Common.{Err, Ok, ◌∙◌}
 use Rattle.fgb_header.specs.Views.{header_shown}
-use Rattle.fgb_reader.proofs.Stopping.{refused_exit, stop_exit, refusal_map, on_err}
+use Rattle.read_stop.proofs.Stopping.{refused_exit, stop_exit, refusal_map, on_err}
 use Rattle.fgb_reader.proofs.Going.{fetches_on, fetches_part, fetches_whole}
 use Rattle.fgb_check.proofs.Turns.{goes_none, goes_refused, goes_judged, goes_broken, goes_next, read_all, read_part}
 use Rattle.fgb_check.proofs.source.count_features.Goals as goal
@@ -20,7 +20,7 @@ returns-in_err-advance-clause-front g c = let new = c.new-pieces.ensures in
 
 pub returns-in_err-judge_feature-clause-refused : goal.returns-in_err-judge_feature-clause-refused
 returns-in_err-judge_feature-clause-refused g c = refused_exit c.from_residual-in_err-judge_feature.result c.in_err-judge_feature.field-0.0 _ c.from_residual-in_err-judge_feature.ensures.1
-    (goes_broken _ _ _ _ _ _ _ _ c.loop-pieces.invariant c.new-pieces.ensures.end c.requires.opened c.requires.whole c.advance.new.self (rw c.if-branch.true at c.in_ok-advance.ensures.goes) c.in_err-judge_feature.field-0.0 c.in_err-judge_feature.ensures)
+    (goes_broken _ _ _ _ _ _ _ c.args.end c.loop-pieces.invariant c.new-pieces.ensures.end c.requires.opened c.requires.whole c.advance.new.self (rw c.if-branch.true at c.in_ok-advance.ensures.goes) c.in_err-judge_feature.field-0.0 c.in_err-judge_feature.ensures)
 
 pub returns-in_err-judge_feature-clause-front : goal.returns-in_err-judge_feature-clause-front
 returns-in_err-judge_feature-clause-front g c = let new = c.new-pieces.ensures in
@@ -28,12 +28,12 @@ returns-in_err-judge_feature-clause-front g c = let new = c.new-pieces.ensures i
 
 pub loop-pieces-preserved : goal.loop-pieces-preserved
 loop-pieces-preserved g c = let counts = c.add.ensures.counts in
-    goes_next _ _ _ _ _ _ _ _ c.loop-pieces.invariant c.new-pieces.ensures.end c.requires.opened c.requires.whole c.advance.new.self (rw c.if-branch.true at c.in_ok-advance.ensures.goes)
+    goes_next _ _ _ _ _ _ _ c.args.end c.loop-pieces.invariant c.new-pieces.ensures.end c.requires.opened c.requires.whole c.advance.new.self (rw c.if-branch.true at c.in_ok-advance.ensures.goes)
     c.add.new.self (g.S.RangeSource.seen c.advance.new.source) c.in_ok-advance.ensures.fetches c.in_ok-judge_feature.ensures.1 c.add.ensures.more (rw c.place.ensures.place at counts)
 
 pub returns-in_err-features-clause-refused : goal.returns-in_err-features-clause-refused
 returns-in_err-features-clause-refused g c = refused_exit c.from_residual-in_err-features.result c.in_err-features.field-0.0 _ c.from_residual-in_err-features.ensures.1
-    (goes_judged _ _ _ _ _ _ _ _ c.loop-pieces.invariant c.new-pieces.ensures.end c.requires.opened c.requires.whole c.advance.new.self (Err c.in_err-features.field-0.0) (rw c.if-branch.false at c.in_ok-advance.ensures.goes) c.in_err-features.ensures)
+    (goes_judged _ _ _ _ _ _ _ c.args.end c.loop-pieces.invariant c.new-pieces.ensures.end c.requires.opened c.requires.whole c.advance.new.self (Err c.in_err-features.field-0.0) (rw c.if-branch.false at c.in_ok-advance.ensures.goes) c.in_err-features.ensures)
 
 pub returns-in_err-features-clause-front : goal.returns-in_err-features-clause-front
 returns-in_err-features-clause-front g c = let new = c.new-pieces.ensures in
@@ -41,7 +41,7 @@ returns-in_err-features-clause-front g c = let new = c.new-pieces.ensures in
 
 pub returns-clause-file : goal.returns-clause-file
 returns-clause-file g c =
-    goes_judged _ _ _ _ _ _ _ _ c.loop-pieces.invariant c.new-pieces.ensures.end c.requires.opened c.requires.whole c.advance.new.self (Ok c.in_ok-features.features) (rw c.if-branch.false at c.in_ok-advance.ensures.goes) c.in_ok-features.ensures
+    goes_judged _ _ _ _ _ _ _ c.args.end c.loop-pieces.invariant c.new-pieces.ensures.end c.requires.opened c.requires.whole c.advance.new.self (Ok c.in_ok-features.features) (rw c.if-branch.false at c.in_ok-advance.ensures.goes) c.in_ok-features.ensures
 
 pub returns-clause-reads : goal.returns-clause-reads
 returns-clause-reads g c = let new = c.new-pieces.ensures in let all = c.loop-pieces.invariant.fetches in

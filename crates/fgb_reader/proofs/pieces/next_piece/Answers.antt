@@ -1,5 +1,5 @@
 use Rattle.std.proofs.Common.{◌+◌, Ok, Err, ap}
-use Rattle.fgb_reader.proofs.Stopping.{refused_exit, on_err}
+use Rattle.read_stop.proofs.Stopping.{refused_exit, on_err}
 use Rattle.fgb_reader.proofs.Framing.{judged_window}
 use Rattle.fgb_reader.proofs.Filling.{fills_one, fills_on, fills_part, fills_whole}
 use Rattle.fgb_reader.proofs.pieces.next_piece.Goals as goal

@@ -1,6 +1,6 @@
 use Rattle.std.proofs.Common.{arith}
 use Rattle.fgb_outside.proofs.Asking.{reads_front}
-use Rattle.fgb_reader.proofs.Stopping.{refused_exit, on_err}
+use Rattle.read_stop.proofs.Stopping.{refused_exit, on_err}
 use Rattle.fgb_reader.proofs.Starting.{as_front, start_reads}
 use Rattle.fgb_reader.proofs.start.read_start.Goals as goal
 

@@ -1,5 +1,5 @@
 use Rattle.std.proofs.Common.{sym, ◌∙◌}
-use Rattle.fgb_reader.proofs.Stopping.{on_err}
+use Rattle.read_stop.proofs.Stopping.{on_err}
 use Rattle.fgb_tool.proofs.Searching.{done_of, part_of, part_either, refused_of, reads_of, few_of, front_of, front_either}
 use Rattle.fgb_tool.proofs.query.search.Goals as goal
 

@@ -29,6 +29,7 @@ returns-in-Some-Check-clause-does g c = λ request asks.
     let checked : Checked (g.S.RangeSource.seen c.args.file.now) (g.S.RangeSource.seen c.check_file.new.file) (g.W.Sink.shown c.args.out.now) (g.W.Sink.shown c.check_file.new.out) c.check_file.result = record {
       done = left.done;
       refused = left.refused;
+      declared = left.declared;
       asked = left.asked;
       front = left.front;
       failed = left.failed;

@@ -1,6 +1,6 @@
 use Rattle.std.proofs.Common.{◌≡◌, ◌+◌, ◌-◌, length, refl, sym, ap, subst, ◌∙◌, arith}
 use Rattle.flat_layout.proofs.Judging.{exit}
-use Rattle.fgb_file.specs.File.{Walks}
+use Rattle.fgb_file.specs.File.{header_end, Walks}
 use Rattle.fgb_reader.specs.Reading.{end_of, place_of}
 use Rattle.fgb_tool.specs.declared.page.Page.{Page}
 use Rattle.fgb_tool.specs.declared.stop.Stop.TheVariants.{Refused, Memory}
@@ -23,7 +23,7 @@ pub returns-clause-stands : goal.returns-clause-stands
 returns-clause-stands c = λ image o o' is lent stands.
     let p = c.args.pieces.now in let t = c.args.tally.now in let held = c.buffer-buffer.ensures.buffer in let read = c.in_ok-read.ensures in
     stands_more image c.args.search.now (end_of p) is p lent c.buffer-buffer.result.now held t c.add-2.new.self o o' c.args.page.now.lines.items c.if-meets.page.lines.items read.1
-    (λ pieces piece walks. c.add-2.ensures.counts image pieces piece (subst (Walks image pieces) (sym c.place-place.ensures.place) walks))
+    (λ pieces piece walks. c.add-2.ensures.counts image (header_end image) pieces piece (subst (Walks image (header_end image) pieces) (sym c.place-place.ensures.place) walks))
     (elim c.if-meets.branch [
       | then-meets+in_ok-add w ↦ adds_hit image c.args.search.now (end_of p) is p lent c.buffer-buffer.result.now held _ (record { number = w.seen.result; offset = c.place-place.result - c.args.search.now.first; size = length c.buffer-buffer.result.now; own = c.bounds-own.result }) t.seen c.args.page.now.lines.items c.if-meets.page.lines.items
           read.0.record_of c.bounds-own.ensures w.seen.ensures (ap (λ n. n - c.args.search.now.first) c.place-place.ensures.place) refl (sym c.meets.ensures.value ∙ w.if-meets.true) (ap (λ (q : Page). q.lines.items) w.page-is ∙ w.in_ok-add.ensures.ok)

@@ -1,7 +1,7 @@
 use Rattle.std.proofs.Common.{◌≡◌, ◌+◌, refl, ap, ◌∙◌, arith}
 use Rattle.section_window.specs.Window.{Held}
 use Rattle.section_window.proofs.Showing.{shows_passed}
-use Rattle.fgb_reader.proofs.Stopping.{on_err}
+use Rattle.read_stop.proofs.Stopping.{on_err}
 use Rattle.fgb_reader.proofs.Going.{fetches_pass, fetches_next, part_next, stands_in}
 use Rattle.fgb_reader.proofs.pieces.Pieces.advance.Goals as goal
 

@@ -2,9 +2,9 @@
 use Rattle.std.proofs.Common.{◌≡◌, Result, Ok, Err, IsErrAnd, sym, subst}
 use Rattle.std.specs.Prelude.{OnOk, OnErr}
 use Rattle.flat_layout.specs.declared.Broken.{Broken}
-use Rattle.fgb_reader.specs.Stops.{AtRefusal, IfRefused}
-use Rattle.fgb_reader.specs.declared.stop.ReadStop.{ReadStop}
-use Rattle.fgb_reader.specs.declared.stop.ReadStop.TheVariants.{Refused, SourceFailed, Memory}
+use Rattle.read_stop.specs.Stops.{AtRefusal, IfRefused}
+use Rattle.read_stop.specs.declared.stop.ReadStop.{ReadStop}
+use Rattle.read_stop.specs.declared.stop.ReadStop.TheVariants.{Refused, SourceFailed, Memory}
 
 -- the exit of the `?` of a refusal, and of a stop
 pub refused_exit : {T : Type 0} (r : Result T ReadStop) (broken : Broken) (P : Broken → Type 0) → IsErrAnd r (λ stop. stop ≡ Refused broken) → P broken → IfRefused r P

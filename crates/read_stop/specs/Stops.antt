@@ -3,8 +3,8 @@ use Rattle.std.specs.Prelude.{◌≡◌, ⊤, Result, IfErr}
 use Rattle.flat_layout.specs.declared.Broken.{Broken}
 use Rattle.fgb_outside.specs.declared.sources.SourceError.{SourceError}
 use Rattle.fgb_outside.specs.declared.sources.SourceError.TheVariants as source_error
-use Rattle.fgb_reader.specs.declared.stop.ReadStop.{ReadStop}
-use Rattle.fgb_reader.specs.declared.stop.ReadStop.TheVariants.{Refused, SourceFailed, Memory}
+use Rattle.read_stop.specs.declared.stop.ReadStop.{ReadStop}
+use Rattle.read_stop.specs.declared.stop.ReadStop.TheVariants.{Refused, SourceFailed, Memory}
 
 -- what an error of a source stops reading as
 abbrev pub IsCause : SourceError → ReadStop → Type 0

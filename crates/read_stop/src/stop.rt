@@ -1,10 +1,10 @@
 // Why reading stops before its end.
 ghost use Rattle.std.specs.Prelude.{◌≡◌};
-ghost use Rattle.fgb_reader.specs.Stops.{IsCause};
-ghost use Rattle.fgb_reader.specs.declared.stop.ReadStop.TheVariants.{Memory, Refused};
+ghost use Rattle.read_stop.specs.Stops.{IsCause};
+ghost use Rattle.read_stop.specs.declared.stop.ReadStop.TheVariants.{Memory, Refused};
 
 use fgb_outside::SourceError;
-use flat_views::Broken;
+use flat_layout::Broken;
 use std::alloc::AllocError;
 
 /// Why reading stops before its end.

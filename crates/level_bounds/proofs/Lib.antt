@@ -1,0 +1,10 @@
+pub mod Above
+pub mod Ceil
+pub mod Falling
+pub mod Growing
+pub mod Kept
+pub mod Places
+pub mod Stack
+pub mod Sums
+pub mod Widths
+pub mod Rows

@@ -1,0 +1,4 @@
+pub mod Cut
+pub mod Growing
+pub mod Levels
+pub mod Shapes

@@ -1,0 +1,5 @@
+pub mod Bytes
+pub mod Faults
+pub mod Groups
+pub mod Runs
+pub mod Trees
