@@ -80,7 +80,7 @@ fn read_children<S: RangeSource>(
 }
 
 /// Reads the next node. After an error it is still the next.
-pub fn read_node<S: RangeSource>(
+pub(crate) fn read_node<S: RangeSource>(
     window: &mut Window,
     source: &mut S,
 ) -> Result<NodeItem, SourceError>
