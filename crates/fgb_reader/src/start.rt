@@ -1,9 +1,10 @@
 // The start and the header of a file.
-ghost use Rattle.std.specs.Prelude.{◌≡◌, ◌+◌, ◌*◌, ◌≤◌, ◌^◌, ℕ, List, option_map, is_some, IfSome, length, take, slice_range, IfOk, OnOk, OnErr, IsErrOf, MatchResult};
+ghost use Rattle.std.specs.Prelude.{◌≡◌, ◌+◌, ◌*◌, ◌<◌, ◌≤◌, ◌^◌, ℕ, List, option_map, is_some, IfSome, IfErr, true, length, take, slice_range, IfOk, OnOk, OnErr, IsErrOf, MatchResult};
 ghost use Rattle.std.specs.List.{range_with_len};
 ghost use Rattle.fgb_outside.specs.Source.{HasSize, IfTold, Rose};
 ghost use Rattle.fgb_outside.specs.Asked.{IsInside, Reads, ReadsFront};
-ghost use Rattle.level_bounds.specs.Levels.{node_count};
+ghost use Rattle.flat_layout.specs.declared.Rule.TheVariants.{IndexPastEnd};
+ghost use Rattle.level_bounds.specs.Levels.{HasLevels, Shape, node_count};
 ghost use Rattle.level_bounds.specs.Shapes.{shape_of};
 ghost use Rattle.fgb_schema.specs.Headers.{has_index as has_index_of};
 ghost use Rattle.fgb_header.specs.Views.{header_shown};
@@ -117,6 +118,12 @@ pub fn judge_levels(header: &HeaderView, place: u64, size: u64) -> Result<Option
         → MatchResult result (λ levels. IsOpen image (option_map shape_of levels)) (BreaksInFront image) }
     ensures fits { IfOk result (λ levels. IfSome levels (λ l. place + 40 * node_count (shape_of l) ≤ size)) }
     ensures shows { IfOk result (λ levels. is_some levels ≡ has_index_of (header_shown header.now)) }
+    ensures levels { let h = header_shown header.now in IfOk result (λ levels. IfSome levels (λ l. HasLevels h.features_count h.node_size (shape_of l))) }
+
+    // Whatever the file: it is refused only for an index, of which no levels fit.
+    ensures refused { IfErr result (λ broken. broken ≡ record { place = place; rule = IndexPastEnd }) }
+    ensures indexed { OnErr result (has_index_of (header_shown header.now) ≡ true) }
+    ensures none_fits { let h = header_shown header.now in OnErr result ((t : Shape) → HasLevels h.features_count h.node_size t → size < place + 40 * node_count t) }
 {
     if !has_index(header) {
         return Ok(None);
