@@ -1,6 +1,6 @@
 #!/usr/bin/env python3
-"""Times `fgb check` and a query that finds nothing on 1,000,000 Points, against `cat` of the same file, and `fgb check`
-on the same points behind an index, against `cat` of that file.
+"""Times `fgb check` and a query that finds nothing on 1,000,000 Points, against `cat` of the same file; and `fgb check`, a
+query that finds nothing and one that finds all points on the same points behind an index, against `cat` of that file.
 
     bench/points.py [PROGRAM]
 
@@ -97,6 +97,8 @@ def main():
             ("query", [program, "query", plain, "--box=200,200,201,201"]),
             ("cat indexed", ["cat", indexed]),
             ("check indexed", [program, "check", indexed]),
+            ("query none", [program, "query", indexed, "--box=200,200,201,201"]),
+            ("query all", [program, "query", indexed, "--box=1,2,1,2"]),
         ]
         base = None
         for name, command in rows:

@@ -1,5 +1,5 @@
 // Checking a source.
-ghost use Rattle.std.specs.Prelude.{◌≡◌, ℕ, ◌+◌, ◌-◌, ◌*◌, ◌≤◌, ◌^◌, min, Some, None, IfOk, OnOk, OnErr, IsErrOf, length};
+ghost use Rattle.std.specs.Prelude.{◌≡◌, ⊤, ℕ, ◌+◌, ◌-◌, ◌*◌, ◌≤◌, ◌^◌, min, Some, None, IfOk, OnOk, OnErr, IsErrOf, length};
 ghost use Rattle.std.specs.List.{range_with_len};
 ghost use Rattle.flat_layout.specs.Promises.{Judges};
 ghost use Rattle.level_bounds.specs.Levels.{Shape, node_count};
@@ -113,7 +113,7 @@ fn count_indexed<S: RangeSource>(
     let mut pieces = Pieces::new(alloc, first, end);
     let mut tally = Tally::new(header.features_count());
     while pieces.advance(source)? {
-        let own = judge_feature(&pieces, header)?;
+        let own = read_box(&pieces, header)?;
         judge_next(&mut leaves, source, pieces.place() - first, own)?;
         tally.add(pieces.place());
     }
@@ -177,8 +177,17 @@ fn count_features<S: RangeSource>(
     Ok(features)
 }
 
-/// Judges the buffer of the feature that is lent, and gives its own box.
-fn judge_feature(pieces: &Pieces, header: &HeaderView) -> Result<Bounds, Broken>
+/// Judges the buffer of the feature that is lent.
+fn judge_feature(pieces: &Pieces, header: &HeaderView) -> Result<(), Broken>
+    requires { 4 ≤ pieces.now.len }
+    ensures { Judges (place_of pieces.now + 4) (BreaksBuffer (buffer_of pieces.now) (feature_root (header_shown header.now))) (λ _. ⊤) result }
+{
+    FeatureView::read(pieces.buffer(), pieces.place() + PREFIX as u64, header)?;
+    Ok(())
+}
+
+/// The own box of the feature that is lent, whose buffer it judges.
+fn read_box(pieces: &Pieces, header: &HeaderView) -> Result<Bounds, Broken>
     requires { 4 ≤ pieces.now.len }
     ensures { Judges (place_of pieces.now + 4) (BreaksBuffer (buffer_of pieces.now) (feature_root (header_shown header.now)))
         (λ own. own ≡ own_box (feature_of (header_shown header.now) (buffer_of pieces.now))) result }

@@ -5,7 +5,6 @@ pub mod Walk
 pub mod Opening
 pub mod Leaves
 pub mod Valid
-pub mod Entries
 pub mod Units
 pub mod Passing
 pub mod Starting

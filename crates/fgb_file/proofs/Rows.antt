@@ -1,46 +1,40 @@
 -- The definitions at worked bytes, computed: the file of three Points, a Point at the negative zero, and two headers
 -- that say how many features there are.
-use Rattle.std.proofs.Common.{◌≡◌, ℕ, ◌++◌, List, [], ◌∷◌, None, true, false, codes, refl}
+use Rattle.std.proofs.Common.{◌≡◌, ℕ, ◌++◌, List, [], ◌∷◌, None, true, false, refl}
 use Rattle.std.specs.List.{concat}
 use Rattle.order_keys.specs.declared.bounds.Bounds.{Bounds}
-use Rattle.std.specs.Fmt.{digits}
-use Rattle.order_keys.specs.Keys.{key_of}
-use Rattle.flat_layout.specs.Layout.{number_at, target, is_absent, slot, entry, field_place, vtable_place, vtable_size, led_to, place_in, number_in, text_in, longs, count}
-use Rattle.fgb_schema.specs.Tables.{type_of, is_typed}
+use Rattle.flat_layout.specs.Layout.{number_at, target, is_absent, slot, entry, field_place, vtable_place, vtable_size, place_in, number_in, text_in}
 use Rattle.fgb_schema.specs.Headers.{Header, header_of, header_at, has_index}
-use Rattle.fgb_schema.specs.Features.{feature_at}
-use Rattle.fgb_schema.specs.Shapes.{shape_at}
 use Rattle.fgb_file.specs.File.{header_end, header_in}
-use Rattle.fgb_file.specs.Found.{found, line, lines}
 
 -- the start and the header of a file of Points
-abbrev start_and_header : List ℕ
+abbrev pub start_and_header : List ℕ
 start_and_header = 102 ∷ 103 ∷ 98 ∷ 3 ∷ 102 ∷ 103 ∷ 98 ∷ 1 ∷ 24 ∷ 0 ∷ 0 ∷ 0 ∷ 16 ∷ 0 ∷ 0 ∷ 0 ∷ 10 ∷ 0 ∷ 5 ∷ 0 ∷ 0 ∷ 0 ∷ 0 ∷ 0 ∷ 4 ∷ 0 ∷ 0 ∷ 0 ∷ 12 ∷ 0 ∷ 0 ∷ 0 ∷ 1 ∷ 0 ∷ 0 ∷ 0 ∷ []
 
 -- the feature of the Point (1, 2), with its size prefix
-abbrev point_1_2 : List ℕ
+abbrev pub point_1_2 : List ℕ
 point_1_2 = 84 ∷ 0 ∷ 0 ∷ 0 ∷ 16 ∷ 0 ∷ 0 ∷ 0 ∷ 6 ∷ 0 ∷ 8 ∷ 0 ∷ 4 ∷ 0 ∷ 0 ∷ 0 ∷ 0 ∷ 0 ∷ 0 ∷ 0 ∷ 12 ∷ 0 ∷ 0 ∷ 0 ∷ 28 ∷ 0 ∷ 0 ∷ 0 ∷ 18 ∷ 0 ∷ 9 ∷ 0 ∷ 0 ∷ 0 ∷ 4 ∷ 0 ∷ 0 ∷ 0 ∷ 0 ∷ 0 ∷ 0 ∷ 0 ∷ 0 ∷ 0 ∷ 8 ∷ 0 ∷ 0 ∷ 0 ∷ 0 ∷ 0 ∷ 0 ∷ 0 ∷ 24 ∷ 0 ∷ 0 ∷ 0 ∷ 12 ∷ 0 ∷ 0 ∷ 0 ∷ 1 ∷ 0 ∷ 0 ∷ 0 ∷ 0 ∷ 0 ∷ 0 ∷ 0 ∷ 2 ∷ 0 ∷ 0 ∷ 0 ∷ 0 ∷ 0 ∷ 0 ∷ 0 ∷ 0 ∷ 0 ∷ 240 ∷ 63 ∷ 0 ∷ 0 ∷ 0 ∷ 0 ∷ 0 ∷ 0 ∷ 0 ∷ 64 ∷ []
 
 -- the Point (10, 10)
-abbrev point_10_10 : List ℕ
+abbrev pub point_10_10 : List ℕ
 point_10_10 = 84 ∷ 0 ∷ 0 ∷ 0 ∷ 16 ∷ 0 ∷ 0 ∷ 0 ∷ 6 ∷ 0 ∷ 8 ∷ 0 ∷ 4 ∷ 0 ∷ 0 ∷ 0 ∷ 0 ∷ 0 ∷ 0 ∷ 0 ∷ 12 ∷ 0 ∷ 0 ∷ 0 ∷ 28 ∷ 0 ∷ 0 ∷ 0 ∷ 18 ∷ 0 ∷ 9 ∷ 0 ∷ 0 ∷ 0 ∷ 4 ∷ 0 ∷ 0 ∷ 0 ∷ 0 ∷ 0 ∷ 0 ∷ 0 ∷ 0 ∷ 0 ∷ 8 ∷ 0 ∷ 0 ∷ 0 ∷ 0 ∷ 0 ∷ 0 ∷ 0 ∷ 24 ∷ 0 ∷ 0 ∷ 0 ∷ 12 ∷ 0 ∷ 0 ∷ 0 ∷ 1 ∷ 0 ∷ 0 ∷ 0 ∷ 0 ∷ 0 ∷ 0 ∷ 0 ∷ 2 ∷ 0 ∷ 0 ∷ 0 ∷ 0 ∷ 0 ∷ 0 ∷ 0 ∷ 0 ∷ 0 ∷ 36 ∷ 64 ∷ 0 ∷ 0 ∷ 0 ∷ 0 ∷ 0 ∷ 0 ∷ 36 ∷ 64 ∷ []
 
 -- the Point (11, 5)
-abbrev point_11_5 : List ℕ
+abbrev pub point_11_5 : List ℕ
 point_11_5 = 84 ∷ 0 ∷ 0 ∷ 0 ∷ 16 ∷ 0 ∷ 0 ∷ 0 ∷ 6 ∷ 0 ∷ 8 ∷ 0 ∷ 4 ∷ 0 ∷ 0 ∷ 0 ∷ 0 ∷ 0 ∷ 0 ∷ 0 ∷ 12 ∷ 0 ∷ 0 ∷ 0 ∷ 28 ∷ 0 ∷ 0 ∷ 0 ∷ 18 ∷ 0 ∷ 9 ∷ 0 ∷ 0 ∷ 0 ∷ 4 ∷ 0 ∷ 0 ∷ 0 ∷ 0 ∷ 0 ∷ 0 ∷ 0 ∷ 0 ∷ 0 ∷ 8 ∷ 0 ∷ 0 ∷ 0 ∷ 0 ∷ 0 ∷ 0 ∷ 0 ∷ 24 ∷ 0 ∷ 0 ∷ 0 ∷ 12 ∷ 0 ∷ 0 ∷ 0 ∷ 1 ∷ 0 ∷ 0 ∷ 0 ∷ 0 ∷ 0 ∷ 0 ∷ 0 ∷ 2 ∷ 0 ∷ 0 ∷ 0 ∷ 0 ∷ 0 ∷ 0 ∷ 0 ∷ 0 ∷ 0 ∷ 38 ∷ 64 ∷ 0 ∷ 0 ∷ 0 ∷ 0 ∷ 0 ∷ 0 ∷ 20 ∷ 64 ∷ []
 
 -- the Point (-0, +0)
-abbrev point_zero : List ℕ
+abbrev pub point_zero : List ℕ
 point_zero = 84 ∷ 0 ∷ 0 ∷ 0 ∷ 16 ∷ 0 ∷ 0 ∷ 0 ∷ 6 ∷ 0 ∷ 8 ∷ 0 ∷ 4 ∷ 0 ∷ 0 ∷ 0 ∷ 0 ∷ 0 ∷ 0 ∷ 0 ∷ 12 ∷ 0 ∷ 0 ∷ 0 ∷ 28 ∷ 0 ∷ 0 ∷ 0 ∷ 18 ∷ 0 ∷ 9 ∷ 0 ∷ 0 ∷ 0 ∷ 4 ∷ 0 ∷ 0 ∷ 0 ∷ 0 ∷ 0 ∷ 0 ∷ 0 ∷ 0 ∷ 0 ∷ 8 ∷ 0 ∷ 0 ∷ 0 ∷ 0 ∷ 0 ∷ 0 ∷ 0 ∷ 24 ∷ 0 ∷ 0 ∷ 0 ∷ 12 ∷ 0 ∷ 0 ∷ 0 ∷ 1 ∷ 0 ∷ 0 ∷ 0 ∷ 0 ∷ 0 ∷ 0 ∷ 0 ∷ 2 ∷ 0 ∷ 0 ∷ 0 ∷ 0 ∷ 0 ∷ 0 ∷ 0 ∷ 0 ∷ 0 ∷ 0 ∷ 128 ∷ 0 ∷ 0 ∷ 0 ∷ 0 ∷ 0 ∷ 0 ∷ 0 ∷ 0 ∷ []
 
-abbrev three : List (List ℕ)
+abbrev pub three : List (List ℕ)
 three = point_1_2 ∷ point_10_10 ∷ point_11_5 ∷ []
 
 -- a box of whole numbers from 0 to 10, and one of the two zeros
-abbrev ten : Bounds
+abbrev pub ten : Bounds
 ten = record { min_x = record { 0 = 0 }; min_y = record { 0 = 0 }; max_x = record { 0 = 0x4024_0000_0000_0000 }; max_y = record { 0 = 0x4024_0000_0000_0000 } }
 
-abbrev origin : Bounds
+abbrev pub origin : Bounds
 origin = record { min_x = record { 0 = 0 }; min_y = record { 0 = 0 }; max_x = record { 0 = 0 }; max_y = record { 0 = 0 } }
 
 header_ends : header_end (start_and_header ++ concat three) ≡ 36
@@ -48,7 +42,7 @@ unfolding number_at
 header_ends = refl
 
 -- what that header shows
-abbrev points_header : Header
+abbrev pub points_header : Header
 points_header = record {
   name = None;
   envelope = [];
@@ -66,17 +60,9 @@ points_header = record {
   metadata = None;
 }
 
-header_shown : header_in (start_and_header ++ concat three) ≡ points_header
+pub header_shown : header_in (start_and_header ++ concat three) ≡ points_header
 unfolding number_at target vtable_place vtable_size slot entry is_absent field_place number_in text_in place_in header_at
 header_shown = refl
-
-three_found : lines (found points_header ten three) ≡ codes "0 0 84 3ff0000000000000 4000000000000000 3ff0000000000000 4000000000000000\n1 88 84 4024000000000000 4024000000000000 4024000000000000 4024000000000000\n"
-unfolding number_at target vtable_place vtable_size slot entry is_absent field_place led_to place_in number_in longs count type_of is_typed shape_at feature_at line lines key_of digits
-three_found = refl
-
-zero_found : lines (found points_header origin (point_zero ∷ [])) ≡ codes "0 0 84 8000000000000000 0000000000000000 8000000000000000 0000000000000000\n"
-unfolding number_at target vtable_place vtable_size slot entry is_absent field_place led_to place_in number_in longs count type_of is_typed shape_at feature_at line lines key_of digits
-zero_found = refl
 
 -- a header that says 179 features, and leaves the node size at 16, so that the file has an index
 abbrev counted_header : List ℕ

@@ -1,10 +1,9 @@
-//! What a FlatGeobuf file is, as a list of bytes, and what a query finds in it.
+//! What a FlatGeobuf file is, as a list of bytes.
 //!
-//! The definitions in `specs/` say which files break no rule (`File`: `IsFile`), which rule is broken at
-//! which place (`BreaksFile`) and in which unit first (`BreaksFirst`), which parts of a source may be asked
-//! for (`IsDeclared`), and which features a box finds and how they are written (`Found`: `found`, `lines`).
-//! The crates above promise what stands here. The two calls are laws over the definitions, and do nothing
-//! when they run.
+//! The definitions in `specs/File.antt` say which files break no rule (`IsFile`), which rule is broken at which place
+//! (`BreaksFile`) and in which unit first (`BreaksFirst`), and which parts of a source may be asked for (`IsDeclared`).
+//! The crates above promise what stands here. The two calls are laws over the definitions, and do nothing when they
+//! run.
 #![tactic(auto)]
 
 ghost use Rattle.std.specs.Prelude.{◌≡◌, ℕ, List, Option};

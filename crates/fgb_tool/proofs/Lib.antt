@@ -1,9 +1,6 @@
-mod Exits
 mod Telling
-mod Standing
-mod Going
-mod Searching
-mod Querying
 mod Checking
 mod Statuses
+mod Writing
+mod Answering
 mod Running

@@ -2,6 +2,6 @@ pub mod Causes
 pub mod Words
 pub mod Asking
 pub mod Texts
+pub mod Lines
 pub mod Pages
-pub mod Walks
 pub mod Runs

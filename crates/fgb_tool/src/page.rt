@@ -3,26 +3,17 @@ ghost use Rattle.std.specs.Prelude.{◌≡◌, ◌+◌, ◌≤◌, ◌∷◌, []
 ghost use Rattle.fgb_outside.specs.Source.{Rose};
 ghost use Rattle.fgb_outside.specs.Sink.{Appends, AppendsPart};
 ghost use Rattle.order_keys.specs.Keys.{digits_of};
-ghost use Rattle.fgb_file.specs.Found.{box_text, line as line_of};
-ghost use Rattle.fgb_tool.specs.Pages.{entry_of};
+ghost use Rattle.found_features.specs.Lent.{entry_of};
+ghost use Rattle.fgb_tool.specs.Lines.{box_text, line as line_of};
 
 use fgb_outside::{Sink, SinkError};
+use found_features::Found;
 use itoa::Buffer;
 use order_keys::{Bounds, Coord};
 use std::alloc::{AllocError, Global};
 
 /// A page is written when it has so many bytes.
 const FULL: usize = 65536;
-
-/// A found feature: its number, the place of its size prefix from the first feature on, the size of its
-/// buffer, and its own box.
-#[derive(Clone, Copy, Debug, PartialEq, Eq)]
-pub(crate) struct Entry {
-    pub(crate) number: u64,
-    pub(crate) offset: u64,
-    pub(crate) size: usize,
-    pub(crate) own: Bounds,
-}
 
 /// Lines that are still to be written. Both buffers are reused.
 #[derive(Drop)]
@@ -43,11 +34,11 @@ impl Page {
     }
 
     /// Adds the line of a feature, or leaves the page as it is.
-    pub(crate) fn add(&mut self, entry: Entry) -> Result<(), AllocError>
-        ensures ok { OnOk result (self.new.lines.items ≡ self.old.lines.items ++ line_of (entry_of entry)) }
+    pub(crate) fn add(&mut self, found: &Found) -> Result<(), AllocError>
+        ensures ok { OnOk result (self.new.lines.items ≡ self.old.lines.items ++ line_of (entry_of found.now)) }
         ensures err { OnErr result (self.new.lines.items ≡ self.old.lines.items) }
     {
-        lay_line(&mut self.line, entry)?;
+        lay_line(&mut self.line, found)?;
         self.lines.extend_from_slice(&self.line)?;
         Ok(())
     }
@@ -75,14 +66,14 @@ impl Page {
 }
 
 /// Lays the line of a feature in place of what stood there.
-fn lay_line(line: &mut Vec<u8>, entry: Entry) -> Result<(), AllocError>
-    ensures { OnOk result (line.new.items ≡ line_of (entry_of entry)) }
+fn lay_line(line: &mut Vec<u8>, found: &Found) -> Result<(), AllocError>
+    ensures { OnOk result (line.new.items ≡ line_of (entry_of found.now)) }
 {
     line.clear();
-    push_number(line, entry.number)?;
-    push_number(line, entry.offset)?;
-    push_number(line, entry.size as u64)?;
-    push_box(line, entry.own)?;
+    push_number(line, found.number)?;
+    push_number(line, found.offset)?;
+    push_number(line, found.bytes.len() as u64)?;
+    push_box(line, found.bounds)?;
     line.push(b'\n')?;
     Ok(())
 }

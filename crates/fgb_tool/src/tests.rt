@@ -315,7 +315,7 @@ fn a_broken_header_is_refused(rt: HostRuntime) -> Result<(), Fail> {
     breaks(&rt, &[(16, 11)], "Vtable at 28")?;
     breaks(&rt, &[(24, 5)], "Field at 24")?;
     breaks(&rt, &[(32, 8)], "Kind at 28")?;
-    let asked = refuses(&rt, &QUERY, &INDEXED, "", "refused: Indexed at 60\n")?;
+    let asked = refuses(&rt, &QUERY, &INDEXED, "", "refused: IndexPastEnd at 60\n")?;
     assert_eq!(rt; asked, 60);
     let asked = refuses(&rt, &QUERY, &NARROW, "", "refused: NodeSize at 44\n")?;
     assert_eq!(rt; asked, 52);

@@ -5,7 +5,7 @@ ghost use Rattle.fgb_tool.specs.Texts.{Tells, usage_text};
 ghost use Rattle.fgb_tool.specs.Runs.{Does, IsStatus};
 
 use crate::check::check_file;
-use crate::query::query;
+use crate::query::query_file;
 use crate::stop::Stop;
 use crate::texts::{OUT_OF_MEMORY, SINK_FAILED, SOURCE_FAILED, USAGE, write_refusal};
 use crate::words::{Asked, read_words};
@@ -51,7 +51,7 @@ pub fn run<S: RangeSource, W: Sink, E: Sink>(
             let _ = err.write(USAGE.as_bytes());
             WRONG_WORDS
         }
-        Some(Asked::Query(sought)) => status_of(query(alloc, sought.bounds, file, out), err),
+        Some(Asked::Query(sought)) => status_of(query_file(alloc, sought.bounds, file, out), err),
         Some(Asked::Check(_)) => status_of(check_file(alloc, file, out), err),
     }
 }

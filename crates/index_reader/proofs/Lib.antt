@@ -1,6 +1,6 @@
 pub mod Order
-mod Stored
+pub mod Stored
 mod Sound
-mod Stops
+pub mod Stops
 pub mod Standing
 mod Going

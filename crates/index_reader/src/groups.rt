@@ -13,7 +13,7 @@ use node_items::{Group, NodeItem};
 
 /// Judges the nodes in these bytes, the first of which has this number, in an index that begins at this place: all
 /// children of this parent, given with its number, or the root where there is none.
-pub(crate) fn judge_group(
+pub fn judge_group(
     bytes: &[u8],
     first: u64,
     parent: Option<(NodeItem, u64)>,

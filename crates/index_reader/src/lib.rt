@@ -18,6 +18,7 @@ mod nodes;
 #[cfg(test)]
 mod tests;
 
+pub use groups::judge_group;
 pub use leaves::Leaves;
 pub use memory::{judge_index, leaf};
 pub use nodes::read_index;

@@ -30,7 +30,7 @@ no_refusal false at rule none = cc
 
 module _ (t : Shape) (nodes : ℕ → NodeItem) (at : ℕ) where
   -- a fault of a node by itself
-  named : (k i : ℕ) → names_child t (suc k) i (nodes (place t (suc k) i)).offset ≡ false → (nodes (place t (suc k) i)).offset ≡ place t k (first_child t i) → ⊥
+  pub named : (k i : ℕ) → names_child t (suc k) i (nodes (place t (suc k) i)).offset ≡ false → (nodes (place t (suc k) i)).offset ≡ place t k (first_child t i) → ⊥
   named k i wrong same =
       let right = eq-eqb (nodes (place t (suc k) i)).offset (place t k (first_child t i)) same in
       cc
@@ -39,63 +39,79 @@ module _ (t : Shape) (nodes : ℕ → NodeItem) (at : ℕ) where
   wrong_offset zero i is wrong = cc
   wrong_offset (suc k) i is wrong = not_first_child is (named k i wrong)
 
-  node_broken : (k i : ℕ) (e : Broken) → IsNode t k i → BeginsWith (node_faults t nodes at k i) e → BreaksTree t nodes at e.place e.rule
+  -- the first fault of a node by itself is broken, whatever that is to say
+  pub node_breaks : (Breaks : ℕ → Rule → Type 0) (k i : ℕ) (e : Broken)
+      → (is_box (nodes (place t k i)).bounds ≡ false → Breaks (node_place at (place t k i)) NodeBox)
+      → (names_child t k i (nodes (place t k i)).offset ≡ false → Breaks (node_place at (place t k i)) ChildOffset)
+      → BeginsWith (node_faults t nodes at k i) e → Breaks e.place e.rule
   unfolding node_faults
-  node_broken k i e is begins =
+  node_breaks Breaks k i e box offset begins =
       let there = node_place at (place t k i) in
       elim (split_front (refusal (is_box (nodes (place t k i)).bounds) there NodeBox) (refusal (names_child t k i (nodes (place t k i)).offset) there ChildOffset) e begins) [
-        | inl box ↦
-            let told = refusal_begins (is_box (nodes (place t k i)).bounds) there NodeBox e box in
-            subst (λ d. BreaksTree t nodes at d.place d.rule) (sym told.1) (no_box is told.0)
+        | inl first ↦
+            let told = refusal_begins (is_box (nodes (place t k i)).bounds) there NodeBox e first in
+            subst (λ d. Breaks d.place d.rule) (sym told.1) (box told.0)
         | inr rest ↦
             let told = refusal_begins (names_child t k i (nodes (place t k i)).offset) there ChildOffset e rest.1 in
-            subst (λ d. BreaksTree t nodes at d.place d.rule) (sym told.1) (wrong_offset k i is told.0)
+            subst (λ d. Breaks d.place d.rule) (sym told.1) (offset told.0)
       ]
 
-  -- a fault of a node on account of a child
-  around_broken : (k i j : ℕ) (e : Broken) → j ≡ suc k → IsNode t (suc k) i
+  -- so is that of a node on account of a child
+  parent_breaks : (Breaks : ℕ → Rule → Type 0) (k i j : ℕ) (e : Broken) → j ≡ suc k
+      → ((c : ℕ) → IsChild t k i c → contains (nodes (place t (suc k) i)).bounds (nodes (place t k c)).bounds ≡ false → Breaks (node_place at (place t (suc k) i)) ParentBox)
       → list_all (λ c. contains (nodes (place t j i)).bounds (nodes (place t k c)).bounds) (children t nodes at k i) ≡ false
-      → e ≡ fault_at at (place t (suc k) i) ParentBox → BreaksTree t nodes at e.place e.rule
-  around_broken k i j e up is wrong same =
+      → e ≡ fault_at at (place t (suc k) i) ParentBox → Breaks e.place e.rule
+  parent_breaks Breaks k i j e up around wrong same =
       let fails = fails_in (λ c. contains (nodes (place t j i)).bounds (nodes (place t k c)).bounds) (first_child t i) (children_end t k i - first_child t i) wrong in
       let child : IsChild t k i fails.at = record { first = fails.after; end = omega (arith, fails.after, fails.before) } in
       let outside : contains (nodes (place t (suc k) i)).bounds (nodes (place t k fails.at)).bounds ≡ false = subst (λ l. contains (nodes (place t l i)).bounds (nodes (place t k fails.at)).bounds ≡ false) up fails.wrong in
-      subst (λ d. BreaksTree t nodes at d.place d.rule) (sym same) (not_around is child outside)
+      subst (λ d. Breaks d.place d.rule) (sym same) (around fails.at child outside)
 
-  parent_broken : (k i : ℕ) (e : Broken) → IsNode t (suc k) i → BeginsWith (parent_faults t nodes at k i) e → BreaksTree t nodes at e.place e.rule
-  unfolding parent_faults
-  parent_broken k i e is begins =
-      let told = refusal_begins (is_around t nodes at k i) (node_place at (place t (suc k) i)) ParentBox e begins in
-      around_broken k i (k + 1) e (add-one k) is told.0 told.1
-
-  -- the first fault of a group breaks a rule
-  pub group_broken : (k i : ℕ) (e : Broken) (rest : List Broken) → IsNode t (suc k) i → group_faults t nodes at k i ≡ e ∷ rest → BreaksTree t nodes at e.place e.rule
-  unfolding group_faults
-  group_broken k i e rest is begins = elim (split_front (own_faults t nodes at k i) (parent_faults t nodes at k i) e (rest, begins)) [
+  -- and so is that of a group
+  pub group_breaks : (Breaks : ℕ → Rule → Type 0) (k i : ℕ) (e : Broken)
+      → ((c : ℕ) → IsChild t k i c → is_box (nodes (place t k c)).bounds ≡ false → Breaks (node_place at (place t k c)) NodeBox)
+      → ((c : ℕ) → IsChild t k i c → names_child t k c (nodes (place t k c)).offset ≡ false → Breaks (node_place at (place t k c)) ChildOffset)
+      → ((c : ℕ) → IsChild t k i c → contains (nodes (place t (suc k) i)).bounds (nodes (place t k c)).bounds ≡ false → Breaks (node_place at (place t (suc k) i)) ParentBox)
+      → BeginsWith (group_faults t nodes at k i) e → Breaks e.place e.rule
+  unfolding group_faults parent_faults
+  group_breaks Breaks k i e box offset around begins = elim (split_front (own_faults t nodes at k i) (parent_faults t nodes at k i) e begins) [
     | inl own ↦
         let fault = fault_in (node_faults t nodes at k) (first_child t i) (children_end t k i - first_child t i) e own in
-        let under : fault.at < children_end t k i = omega (arith, fault.after, fault.before) in
-        node_broken k fault.at e (record { level = omega (arith, is.level); there = omega arith }) fault.begins
-    | inr later ↦ parent_broken k i e is later.1
+        let child : IsChild t k i fault.at = record { first = fault.after; end = omega (arith, fault.after, fault.before) } in
+        node_breaks Breaks k fault.at e (box fault.at child) (offset fault.at child) fault.begins
+    | inr later ↦
+        let told = refusal_begins (is_around t nodes at k i) (node_place at (place t (suc k) i)) ParentBox e later.1 in
+        parent_breaks Breaks k i (k + 1) e (add-one k) around told.0 told.1
   ]
 
+  -- the first fault of a group breaks a rule of the tree
+  pub group_broken : (k i : ℕ) (e : Broken) (rest : List Broken) → IsNode t (suc k) i → group_faults t nodes at k i ≡ e ∷ rest → BreaksTree t nodes at e.place e.rule
+  group_broken k i e rest is begins =
+      let below = λ (c : ℕ) (child : IsChild t k i c). under c child is in
+      group_breaks (BreaksTree t nodes at) k i e (λ c child wrong. no_box (below c child) wrong) (λ c child wrong. wrong_offset k c (below c child) wrong) (λ c child wrong. not_around is child wrong) (rest, begins)
+    where
+      under : (c : ℕ) → IsChild t k i c → IsNode t (suc k) i → IsNode t k c
+      under c child up = record { level = omega (arith, up.level); there = omega (arith, child.end) }
+
   pub root_broken : (e : Broken) (rest : List Broken) → IsShape t → root_faults t nodes at ≡ e ∷ rest → BreaksTree t nodes at e.place e.rule
-  root_broken e rest shape begins = node_broken t.top 0 e (root_is_node t shape 0 (omega arith)) (rest, begins)
+  root_broken e rest shape begins =
+      let is = root_is_node t shape 0 (omega arith) in
+      node_breaks (BreaksTree t nodes at) t.top 0 e (λ wrong. no_box is wrong) (λ wrong. wrong_offset t.top 0 is wrong) (rest, begins)
 
   -- what is clean
-  clean_box : (k i : ℕ) → node_faults t nodes at k i ≡ [] → is_box (nodes (place t k i)).bounds ≡ true
+  pub clean_box : (k i : ℕ) → node_faults t nodes at k i ≡ [] → is_box (nodes (place t k i)).bounds ≡ true
   unfolding node_faults
   clean_box k i none =
       no_refusal (is_box (nodes (place t k i)).bounds) (node_place at (place t k i)) NodeBox
       (no_parts (refusal (is_box (nodes (place t k i)).bounds) (node_place at (place t k i)) NodeBox) _ none).0
 
-  clean_offset : (k i : ℕ) → node_faults t nodes at k i ≡ [] → names_child t k i (nodes (place t k i)).offset ≡ true
+  pub clean_offset : (k i : ℕ) → node_faults t nodes at k i ≡ [] → names_child t k i (nodes (place t k i)).offset ≡ true
   unfolding node_faults
   clean_offset k i none =
       no_refusal (names_child t k i (nodes (place t k i)).offset) (node_place at (place t k i)) ChildOffset
       (no_parts (refusal (is_box (nodes (place t k i)).bounds) (node_place at (place t k i)) NodeBox) _ none).1
 
-  clean_around : (k i c : ℕ) → group_faults t nodes at k i ≡ [] → IsChild t k i c → contains (nodes (place t (suc k) i)).bounds (nodes (place t k c)).bounds ≡ true
+  pub clean_around : (k i c : ℕ) → group_faults t nodes at k i ≡ [] → IsChild t k i c → contains (nodes (place t (suc k) i)).bounds (nodes (place t k c)).bounds ≡ true
   unfolding group_faults parent_faults
   clean_around k i c none child =
       let parts = no_parts (own_faults t nodes at k i) (parent_faults t nodes at k i) none in
@@ -104,14 +120,14 @@ module _ (t : Shape) (nodes : ℕ → NodeItem) (at : ℕ) where
       holds_in (λ d. contains (nodes (place t (k + 1) i)).bounds (nodes (place t k d)).bounds) (first_child t i) (children_end t k i - first_child t i) c around child.first (omega (arith, child.first, child.end)) in
       subst (λ l. contains (nodes (place t l i)).bounds (nodes (place t k c)).bounds ≡ true) (add-one k) inside
 
-  clean_child : (k i c : ℕ) → group_faults t nodes at k i ≡ [] → IsChild t k i c → node_faults t nodes at k c ≡ []
+  pub clean_child : (k i c : ℕ) → group_faults t nodes at k i ≡ [] → IsChild t k i c → node_faults t nodes at k c ≡ []
   unfolding group_faults
   clean_child k i c none child =
       let parts = no_parts (own_faults t nodes at k i) (parent_faults t nodes at k i) none in
       none_in (node_faults t nodes at k) (first_child t i) (children_end t k i - first_child t i) c parts.0 child.first (omega (arith, child.first, child.end))
 
   -- a node below the root is a child of its parent
-  is_child : (k c : ℕ) → 0 < t.node_size → c < width t k → IsChild t k (c / t.node_size) c
+  pub is_child : (k c : ℕ) → 0 < t.node_size → c < width t k → IsChild t k (c / t.node_size) c
   is_child k c some there =
       let front : t.node_size * (c / t.node_size) ≤ c = mul-div-le c t.node_size in
       let behind : c < t.node_size * (c / t.node_size + 1) = omega arith in

@@ -1,8 +1,9 @@
 -- What a caller needs of a window that shows a source, and of what its fills asked for.
-use Rattle.std.proofs.Common.{◌≡◌, ℕ, ◌+◌, ◌-◌, ◌≤◌, [], length, take, drop, sym, ap, ◌∙◌, arith, length-append}
+use Rattle.std.proofs.Common.{◌≡◌, ℕ, ◌+◌, ◌-◌, ◌≤◌, ◌<◌, max, List, [], length, take, drop, sym, ap, subst, ◌∙◌, ⊎_elim, arith, length-append}
 use Rattle.std.specs.Prelude.{slice_range}
 use Rattle.std.specs.List.{range_with_len}
-use Rattle.std.proofs.lemmas.List.{length-drop}
+use Rattle.std.proofs.lemmas.List.{length-drop, drop_all}
+use Rattle.std.proofs.lemmas.Bool.{cases_lt}
 use Rattle.fgb_outside.specs.Source.{Source, IfTold, Keeps}
 use Rattle.fgb_outside.specs.Asked.{Reads, ReadsFront}
 use Rattle.fgb_outside.proofs.Shown.{IfTold-later}
@@ -38,6 +39,18 @@ shows_passed w source n within shows =
       bytes = λ image told.
           ap (drop n) (shows.bytes image told) ∙ sym (slice_pass image w.at (ahead w) n (omega arith)) ∙ ap (slice_range image (w.at + n)) (sym same);
     }
+
+-- going on as far as what is held, or farther
+pub ahead_skipped : (w : Held) (n : ℕ) → ahead (passed w n) ≡ max (ahead w) (w.at + n)
+ahead_skipped w n = let e : length (drop n w.bytes) ≡ length w.bytes - n = length-drop n w.bytes in omega arith
+
+pub shows_skipped : (w : Held) (source : Source) (n : ℕ) → w.at + n ≤ w.end → Shows w source → Shows (passed w n) source
+shows_skipped w source n within shows = ⊎_elim
+    (λ (less : n < length w.bytes). shows_passed w source n (omega (arith, less)) shows)
+    (λ (more : length w.bytes ≤ n).
+    subst (λ (b : List ℕ). Shows (record { at = w.at + n; bytes = b; end = w.end }) source) (sym (drop_all n w.bytes more))
+    (shows_nothing source (w.at + n) w.end within shows.inside))
+    (cases_lt n (length w.bytes))
 
 -- the first n bytes held are those of the source at that place
 pub shows_front : (w : Held) (source : Source) (n : ℕ) → n ≤ length w.bytes → Shows w source → IfTold source (λ image. take n w.bytes ≡ slice_range image w.at (w.at + n))

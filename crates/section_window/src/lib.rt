@@ -2,7 +2,8 @@
 //!
 //! A [`Window`] is seen as the place of the first byte that it holds, the bytes held, and where the section
 //! ends. [`Window::fill`] makes at least so many bytes lie there, and asks only for positions that were not
-//! asked for before. [`Window::bytes`] lends them, and [`Window::pass`] goes on behind some of them.
+//! asked for before; [`Window::fill_until`] moreover asks for none from a bound on. [`Window::bytes`] lends them, and
+//! [`Window::pass`] goes on behind some of them.
 #![tactic(auto)]
 
 mod pieces;
@@ -57,6 +58,22 @@ mod tests {
         assert_eq!(rt; window.bytes().len(), 1_200_000);
         let asked = [(0, 1_048_576), (1_048_576, 151_424), (1_048_576, 151_424)];
         assert_eq!(rt; source.asked(), asked.as_slice());
+        Ok(())
+    }
+
+    #[test]
+    fn a_fill_stops_at_its_bound(rt: HostRuntime) -> Result<(), Fail> {
+        let alloc = rt.alloc();
+        let image = vec![in alloc; 7u8; 300]?;
+        let mut source = MemorySource::new(alloc, &image, &[])?;
+        assert_eq!(rt; source.size(), 300);
+        let mut window = Window::new(alloc, 10, 300);
+        window.fill_until(&mut source, 20, 50)?;
+        assert_eq!(rt; window.bytes().len(), 40);
+        window.pass(90);
+        assert_eq!(rt; (window.at(), window.bytes().len()), (100, 0));
+        window.fill_until(&mut source, 4, 104)?;
+        assert_eq!(rt; source.asked(), [(10, 40), (100, 4)].as_slice());
         Ok(())
     }
 }

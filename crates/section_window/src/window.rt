@@ -94,25 +94,53 @@ impl Window {
         ensures held { want ≤ length self.old.bytes → self.new ≡ self.old }
         ensures failed { IsErrOf result SourceError.Failed → Rose (S.seen source.old).faults (S.seen source.new).faults }
     {
+        let end = self.end;
+        self.fill_until(source, want, end)
+    }
+
+    /// The same, without asking for anything from `until` on.
+    pub fn fill_until<S: RangeSource>(
+        &mut self,
+        source: &mut S,
+        want: usize,
+        until: u64,
+    ) -> Result<(), SourceError>
+        requires shows { Shows self.old (S.seen source.old) }
+        requires wanted { self.old.at + want ≤ until }
+        requires within { until ≤ self.old.end }
+        ensures kept { (self.new.at ≡ self.old.at) × (self.new.end ≡ self.old.end) }
+        ensures shows { Shows self.new (S.seen source.new) }
+        ensures enough { OnOk result (want ≤ length self.new.bytes) }
+        ensures grows { Grows self.old self.new }
+        ensures err { OnErr result (self.new ≡ self.old) }
+        ensures reads { OnOk result (Reads (IsInside self.old.at until) (S.seen source.old) (S.seen source.new) (range_with_len (ahead self.old) (ahead self.new - ahead self.old))) }
+        ensures front { OnErr result (ReadsFront (IsInside self.old.at until) (S.seen source.old) (S.seen source.new) (range_with_len (ahead self.old) (until - ahead self.old))) }
+        ensures keeps { Keeps (S.seen source.old) (S.seen source.new) }
+        ensures pieces { OnOk result (Reads (IsPiece self.old.at until) (S.seen source.old) (S.seen source.new) (range_with_len (ahead self.old) (ahead self.new - ahead self.old))) }
+        ensures front_pieces { OnErr result (ReadsFront (IsPiece self.old.at until) (S.seen source.old) (S.seen source.new) (range_with_len (ahead self.old) (until - ahead self.old))) }
+        ensures held { want ≤ length self.old.bytes → self.new ≡ self.old }
+        ensures not_past { length self.old.bytes < want → ahead self.new ≤ until }
+        ensures failed { IsErrOf result SourceError.Failed → Rose (S.seen source.old).faults (S.seen source.new).faults }
+    {
         let held = self.till - self.from;
         if want <= held {
             return Ok(());
         }
-        let section = (self.end - self.at) as usize;
+        let section = (until - self.at) as usize;
         let room = section.min(want + PIECE);
         make_room(&mut self.buffer, self.from, self.till, room)?;
         self.from = 0;
         self.till = held;
-        self.till = read_pieces(source, &mut self.buffer, held, want, self.at, self.end)?;
+        self.till = read_pieces(source, &mut self.buffer, held, want, self.at, until)?;
         Ok(())
     }
 
-    /// Goes on behind the first `n` bytes.
+    /// Goes on `n` bytes, which need not lie here, and asks for nothing.
     pub fn pass(&mut self, n: usize)
-        requires { n ≤ length self.old.bytes }
+        requires { self.old.at + n ≤ self.old.end }
         ensures { self.new ≡ passed self.old n }
     {
-        self.from += n;
+        self.from += n.min(self.till - self.from);
         self.at += n as u64;
     }
 }

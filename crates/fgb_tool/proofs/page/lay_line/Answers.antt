@@ -1,6 +1,6 @@
 use Rattle.std.proofs.Common.{◌≡◌, ℕ, List, [], ◌∷◌, ◌++◌}
 use Rattle.std.proofs.lemmas.List.{append_assoc}
-use Rattle.fgb_file.specs.Found.{line}
+use Rattle.fgb_tool.specs.Lines.{line}
 use Rattle.fgb_tool.proofs.page.lay_line.Goals as goal
 
 laid : (a b c d e f n o s box : List ℕ) → a ≡ [] → b ≡ a ++ n ++ 32 ∷ [] → c ≡ b ++ o ++ 32 ∷ [] → d ≡ c ++ s ++ 32 ∷ [] → e ≡ d ++ box → f ≡ e ++ 10 ∷ []

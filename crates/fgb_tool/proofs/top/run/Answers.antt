@@ -2,7 +2,8 @@ use Rattle.std.proofs.Common.{sym, ap, ◌∙◌}
 use Rattle.fgb_tool.specs.Asking.{request_of}
 use Rattle.fgb_tool.specs.Texts.{usage_text}
 use Rattle.fgb_tool.proofs.Telling.{tells_once}
-use Rattle.fgb_tool.proofs.Running.{Queried, does_query, Checked, does_check}
+use Rattle.fgb_tool.proofs.Answering.{Queried}
+use Rattle.fgb_tool.proofs.Running.{does_query, Checked, does_check}
 use Rattle.fgb_tool.proofs.top.run.Goals as goal
 
 pub returns-in-None-clause-usage_text : goal.returns-in-None-clause-usage_text
@@ -11,17 +12,22 @@ returns-in-None-clause-usage_text g c = λ is. rw c.as_bytes.ensures.value at (t
 
 pub returns-in-Some-Query-clause-does : goal.returns-in-Some-Query-clause-does
 returns-in-Some-Query-clause-does g c = λ request asks.
-    let left = c.query.ensures in let sought = c.in-Some-Query.sought in
-    let queried : Queried sought.bounds (g.S.RangeSource.seen c.args.file.now) (g.S.RangeSource.seen c.query.new.file) (g.W.Sink.shown c.args.out.now) (g.W.Sink.shown c.query.new.out) c.query.result = record {
+    let left = c.query_file.ensures in let sought = c.in-Some-Query.sought in
+    let queried : Queried sought.bounds (g.S.RangeSource.seen c.args.file.now) (g.S.RangeSource.seen c.query_file.new.file) (g.W.Sink.shown c.args.out.now) (g.W.Sink.shown c.query_file.new.out) c.query_file.result = record {
+      headline = left.headline;
+      headline_part = left.headline_part;
       done = left.done;
-      part = left.part;
+      sound = left.sound;
       refused = left.refused;
-      asked = left.asked;
+      unrefused = left.unrefused;
+      part = left.part;
+      declared = left.declared;
+      search = left.search;
       front = left.front;
       failed = left.failed;
       sink_failed = left.sink_failed;
     } in
-    does_query _ _ _ _ _ _ _ c.query.result c.status_of.ensures sought.file.now sought.bounds request queried (ap request_of (sym c.in-Some-Query.field-0-is) ∙ c.in-Some-Query.ensures.only request asks)
+    does_query _ _ _ _ _ _ _ c.query_file.result c.status_of.ensures sought.file.now sought.bounds request queried (ap request_of (sym c.in-Some-Query.field-0-is) ∙ c.in-Some-Query.ensures.only request asks)
 
 pub returns-in-Some-Check-clause-does : goal.returns-in-Some-Check-clause-does
 returns-in-Some-Check-clause-does g c = λ request asks.

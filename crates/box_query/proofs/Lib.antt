@@ -1,0 +1,8 @@
+mod Alike
+mod Standing
+mod Rising
+mod Finding
+mod Stops
+mod Searching
+mod Heading
+mod Visiting

@@ -1,0 +1,13 @@
+pub mod Beginning
+pub mod Chains
+pub mod Children
+pub mod Depths
+pub mod Ends
+pub mod ValueEnds
+pub mod Entries
+pub mod Lengths
+pub mod Numbers
+pub mod Pieces
+pub mod Slots
+pub mod Wholes
+pub mod Widths

@@ -1,0 +1,10 @@
+pub mod Back
+pub mod Children
+pub mod Held
+pub mod Layables
+pub mod Nested
+pub mod Parts
+pub mod Slots
+pub mod Texts
+pub mod Vtables
+pub mod Weights

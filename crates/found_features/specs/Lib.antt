@@ -1,0 +1,4 @@
+pub mod Entries
+pub mod Visits
+pub mod Lent
+pub mod Stops

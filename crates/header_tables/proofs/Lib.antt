@@ -1,0 +1,12 @@
+mod Rows
+mod Held
+mod Bytes
+mod Sound
+mod Numbers
+mod Links
+mod CrsTables
+mod ColumnTables
+mod ColumnLists
+mod HeaderTables
+mod Layables
+mod Buffers

@@ -1,0 +1,9 @@
+mod Filling
+mod Refusing
+mod Rising
+mod Leaves
+mod Splitting
+mod Handing
+mod Running
+mod Places
+mod Whole

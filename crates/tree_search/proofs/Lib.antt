@@ -1,0 +1,13 @@
+pub mod Filters
+pub mod Descent
+pub mod Scan
+pub mod Neighbours
+pub mod Pushing
+pub mod Groups
+pub mod Requests
+pub mod Offsets
+pub mod Positions
+pub mod Judging
+pub mod Runs
+pub mod Faults
+pub mod Whole

@@ -1,0 +1,4 @@
+pub mod Wanted
+pub mod Searches
+pub mod Descent
+pub mod Sought

@@ -1,0 +1,10 @@
+pub mod Boxes
+pub mod Bytes
+pub mod Joins
+pub mod Laying
+pub mod Order
+pub mod Paging
+pub mod Parents
+pub mod Slices
+pub mod Sound
+pub mod Unders

@@ -1,0 +1,9 @@
+-- Bytes that are written later, in pieces.
+use Rattle.std.specs.Prelude.{◌≡◌, ℕ, List, ◌++◌}
+use Rattle.fgb_outside.specs.Sink.{Sink, Appends}
+
+-- what was written, and what stands on the page now, are what stood on it and the bytes
+pub record Adds (old new : Sink) (page page' bytes : List ℕ) : Type 0 where
+  pub written : List ℕ
+  pub appends : Appends old new written
+  pub whole : written ++ page' ≡ page ++ bytes
