@@ -1,7 +1,8 @@
 -- The groups of a header's fields: what one of them breaks is broken from the header on, and the header is clean by its
 -- groups and its columns.
-use Rattle.std.proofs.Common.{◌≡◌, ◌==◌, inl, inr, ℕ, zero, suc, ◌≤◌, nat_le, true, false, not, List, [], ◌∷◌, length, Option, refl, sym, subst, arith}
+use Rattle.std.proofs.Common.{◌≡◌, ◌≢◌, ◌∙◌, ◌==◌, inl, inr, ℕ, zero, suc, ◌≤◌, nat_le, true, false, true≢false, not, List, [], ◌∷◌, length, Option, refl, sym, subst, arith}
 use Rattle.std.proofs.lemmas.Bool.{cases_Bool}
+use Rattle.std.proofs.lemmas.Bool.Decides.{nat_tests}
 use Rattle.std.proofs.lemmas.Grind.{common_steps}
 use Rattle.flat_layout.specs.declared.Rule.{Rule}
 use Rattle.flat_layout.specs.declared.Rule.TheVariants.{Kind, NodeSize}
@@ -48,6 +49,12 @@ among_at i x [] here = absurd here
 among_at zero x (y ∷ ys) here = inl here
 among_at (suc i) x (y ∷ ys) here = inr (among_at i x ys here)
 
+up_to : (kind n : ℕ) → kind ≡ n → nat_le n 7 ≡ true → kind ≤ 7
+up_to kind n same known = grind (arith, nat_tests)
+
+other_than : (size n : ℕ) → size ≡ n → not (n == 1) ≡ true → size ≢ 1
+other_than size n same known one = let e : not (n == 1) ≡ false = rw (sym same ∙ one) in true≢false (sym known ∙ e)
+
 module _ (b : List ℕ) (t : ℕ) (sound : is_table b t ≡ true) where
   -- the type is known, and above 7
   pub kind_above : IsClean (BreaksField 1 b t 2) → nat_le (number_in 1 b t 2 0) 7 ≡ false → BreaksKind b t t Kind
@@ -56,6 +63,25 @@ module _ (b : List ℕ) (t : ℕ) (sound : is_table b t ≡ true) where
   -- the node size is known, and 1
   pub node_size_one : IsClean (BreaksField 2 b t 9) → not (number_in 2 b t 9 16 == 1) ≡ false → BreaksNodeSize b t t NodeSize
   node_size_one clean one = other_node_size (record { known = rw (sound, readable b 2 t 9 clean); other = one; place = refl; rule = refl })
+
+  -- a type that is not refused is known, and a node size that is not refused is not 1
+  type_known : IsClean (BreaksKind b t) → nat_le (number_in 1 b t 2 0) 7 ≡ true
+  type_known clean = elim (cases_Bool (nat_le (number_in 1 b t 2 0) 7)) [
+    | inl known ↦ known
+    | inr above ↦ absurd (clean t Kind (kind_above (λ q r broken. clean q r (in_kind broken)) above))
+  ]
+
+  size_known : IsClean (BreaksNodeSize b t) → not (number_in 2 b t 9 16 == 1) ≡ true
+  size_known clean = elim (cases_Bool (not (number_in 2 b t 9 16 == 1))) [
+    | inl known ↦ known
+    | inr one ↦ absurd (clean t NodeSize (node_size_one (λ q r broken. clean q r (in_node_size broken)) one))
+  ]
+
+  pub type_within : (kind : ℕ) → (kind ≡ number_in 1 b t 2 0) × IsClean (BreaksKind b t) → kind ≤ 7
+  type_within kind read = up_to kind (number_in 1 b t 2 0) read.0 (type_known read.1)
+
+  pub size_several : (size : ℕ) → (size ≡ number_in 2 b t 9 16) × IsClean (BreaksNodeSize b t) → size ≢ 1
+  size_several size read = other_than size (number_in 2 b t 9 16) read.0 (size_known read.1)
 
   -- what the field with this number and content breaks
   from_id : (id : ℕ) (content : Content) → IsAt id (id, content) header_fields → (q : ℕ) (r : Rule) → Breaks b (field content t id) q r → Breaks b (header_part t) q r

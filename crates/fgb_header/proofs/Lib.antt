@@ -6,3 +6,4 @@ mod HeaderLinks
 mod HeaderWeights
 pub mod RootTables
 pub mod ColumnTypes
+pub mod Known

@@ -53,6 +53,7 @@ pub struct ColumnView<'a> {
     // the sum of their sizes then fits
     pub ghost short: { length name.now + text_weight (option_map (λ s. s.now) title)
         + text_weight (option_map (λ s. s.now) description) + text_weight (option_map (λ s. s.now) metadata) ≤ 4 * 2 ^ 28 },
+    pub ghost known: { kind ≤ 14 },
 }
 
 impl<'a> ColumnView<'a> {

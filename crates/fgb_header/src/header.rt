@@ -1,4 +1,4 @@
-ghost use Rattle.std.specs.Prelude.{◌≡◌, ◌+◌, ◌*◌, ◌^◌, ◌≤◌, length, option_map};
+ghost use Rattle.std.specs.Prelude.{◌≡◌, ◌≢◌, ◌+◌, ◌*◌, ◌^◌, ◌≤◌, length, option_map};
 ghost use Rattle.flat_layout.specs.Layout.{number_in, place_in};
 ghost use Rattle.flat_layout.specs.Promises.{Judges};
 ghost use Rattle.flat_views.specs.Meters.{left_of, meter_place};
@@ -153,6 +153,9 @@ struct Own<'a> {
     crs: Option<CrsView<'a>>,
     // so what they weigh fits
     pub ghost wide: { number_width envelope ≡ 8 },
+    pub ghost known: { geometry_type ≤ 7 },
+    // an index of no or of more than one child a node
+    pub ghost several: { node_size ≢ 1 },
 }
 
 impl<'a> Own<'a> {
@@ -260,7 +263,8 @@ impl<'a> HeaderView<'a> {
 
     /// The box of all points as the writer gave it: mins, then maxs. It is kept, and is not judged.
     pub fn envelope(&self) -> Option<VecView<'a>>
-        ensures { longs_shown result ≡ (header_shown self.now).envelope }
+        ensures shown { longs_shown result ≡ (header_shown self.now).envelope }
+        ensures wide { number_width result ≡ 8 }
     {
         self.own.envelope
     }

@@ -1,11 +1,11 @@
 use Rattle.std.proofs.Common.{◌≡◌, ◌∙◌, ℕ, ◌+◌, ◌*◌, ◌^◌, ◌≤◌, inl, inr, refl, true, length, List, Option, FitsSigned, w32, arith, rules}
 use Rattle.std.proofs.lemmas.Int.{to_z-of_z}
-use Rattle.flat_layout.specs.Layout.{is_table, led_to, text}
+use Rattle.flat_layout.specs.Layout.{is_table, led_to, number_in, text}
 use Rattle.flat_layout.specs.Promises.{IsClean}
 use Rattle.flat_layout.proofs.Judging.{exit, names-weaker}
 use Rattle.flat_views.specs.Tables.{bytes_of, place_of}
 use Rattle.fgb_schema.specs.Weights.{text_weight}
-use Rattle.fgb_header.proofs.RecordFields.{column_from_name, column_from_kind, column_from_text, column_from_number, column_clean, same_column, BreaksName, name_within, IsRead, read_within}
+use Rattle.fgb_header.proofs.RecordFields.{column_from_name, column_from_kind, column_from_text, column_from_number, column_clean, same_column, BreaksName, name_within, IsRead, read_within, known_within, kind_known}
 use Rattle.fgb_header.proofs.column.ColumnView.read.Goals as goal
 
 -- the sum of the sizes fits
@@ -52,6 +52,7 @@ pub invariant_of-result : goal.invariant_of-result
 invariant_of-result c =
     let b = bytes_of c.args.table in let t = place_of c.args.table in record {
       short = sizes b t _ _ _ _ c.args.table.buf.small c.args.table.sound c.in_ok-name.ensures c.in_ok-title.ensures c.in_ok-description.ensures c.in_ok-metadata.ensures;
+      known = known_within c.in_ok-kind.kind (number_in 1 b t 1 0) c.in_ok-kind.ensures.0 (kind_known b t c.args.table.sound c.in_ok-kind.ensures.1);
     }
 
 pub returns : goal.returns

@@ -1,7 +1,13 @@
 use Rattle.flat_views.specs.Tables.{base_of, bytes_of, place_of}
 use Rattle.flat_views.proofs.Shown.{longs_led}
-use Rattle.fgb_header.proofs.HeaderGroups.{own_clean}
+use Rattle.fgb_header.proofs.HeaderGroups.{own_clean, type_within, size_several}
 use Rattle.fgb_header.proofs.header.Own.read.Goals as goal
+
+pub invariant_of-result-clause-known : goal.invariant_of-result-clause-known
+invariant_of-result-clause-known c = type_within (bytes_of c.args.table) (place_of c.args.table) c.args.table.sound _ c.in_ok-known_type.ensures
+
+pub invariant_of-result-clause-several : goal.invariant_of-result-clause-several
+invariant_of-result-clause-several c = size_several (bytes_of c.args.table) (place_of c.args.table) c.args.table.sound _ c.in_ok-known_node_size.ensures
 
 pub returns : goal.returns
 returns c =

@@ -1,0 +1,4 @@
+mod Back
+mod Fields
+mod Lists
+mod Records

@@ -1,0 +1,4 @@
+pub mod OwnedColumn
+pub mod OwnedCrs
+pub mod OwnedHeader
+pub mod Puts
