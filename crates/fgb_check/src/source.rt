@@ -4,7 +4,7 @@ ghost use Rattle.std.specs.List.{range_with_len};
 ghost use Rattle.flat_layout.specs.Promises.{Judges};
 ghost use Rattle.level_bounds.specs.Levels.{Shape, node_count};
 ghost use Rattle.level_bounds.specs.Shapes.{shape_of};
-ghost use Rattle.fgb_outside.specs.Source.{IfTold, Rose};
+ghost use Rattle.fgb_outside.specs.Source.{IfTold, Keeps, Rose};
 ghost use Rattle.fgb_outside.specs.Asked.{IsInside, Reads, ReadsFront};
 ghost use Rattle.fgb_schema.specs.Paths.{feature_root};
 ghost use Rattle.fgb_schema.specs.Weights.{BreaksBuffer};
@@ -52,6 +52,7 @@ pub fn check<S: RangeSource>(alloc: Global, source: &mut S) -> Result<Verdict, C
     ensures asked { IfAccepted result (IfTold (S.seen source.old) (λ image. IsUnindexed image → AsksAll image (S.seen source.old) (S.seen source.new))) }
     ensures front { IfTold (S.seen source.old) (λ image. ((t : Shape) → IsOpen image (Some t) → ⊥) → AsksFront image (S.seen source.old) (S.seen source.new)) }
 
+    ensures keeps { Keeps (S.seen source.old) (S.seen source.new) }
     ensures failed { IsErrOf result CheckError.SourceFailed → Rose (S.seen source.old).faults (S.seen source.new).faults }
 {
     match count(alloc, source) {
@@ -69,6 +70,7 @@ fn count<S: RangeSource>(alloc: Global, source: &mut S) -> Result<(u64, u64), Re
     ensures declared { IfTold (S.seen source.old) (λ image. AsksOnly (IsDeclared image) (S.seen source.old) (S.seen source.new)) }
     ensures asked { OnOk result (IfTold (S.seen source.old) (λ image. IsUnindexed image → AsksAll image (S.seen source.old) (S.seen source.new))) }
     ensures front { OnErr result (IfTold (S.seen source.old) (λ image. ((t : Shape) → IsOpen image (Some t) → ⊥) → AsksFront image (S.seen source.old) (S.seen source.new))) }
+    ensures keeps { Keeps (S.seen source.old) (S.seen source.new) }
     ensures failed { IsErrOf result ReadStop.SourceFailed → Rose (S.seen source.old).faults (S.seen source.new).faults }
 {
     let size = source.size();

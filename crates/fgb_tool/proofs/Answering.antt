@@ -1,5 +1,5 @@
 -- What a query of a file leaves, by what its visitor was handed and what was written behind it.
-use Rattle.std.proofs.Common.{◌≡◌, ◌≢◌, ◌⊎◌, ⊎_elim, ℕ, ◌≤◌, List, [], ◌∷◌, ◌++◌, map, Option, Some, None, Result, Ok, Err, IsOk, IsErrOf, refl, sym, ap, subst, ◌∙◌}
+use Rattle.std.proofs.Common.{◌≡◌, ◌⊎◌, ⊎_elim, ℕ, ◌≤◌, List, [], ◌∷◌, ◌++◌, map, Option, Some, None, Result, Ok, Err, IsOk, IsErrOf, refl, sym, ap, subst, ◌∙◌}
 use Rattle.std.specs.Prelude.{IfOk, OnOk, OnErr}
 use Rattle.std.proofs.lemmas.List.{append-nil, map-append}
 use Rattle.std.proofs.lemmas.Bool.{true≢false}
@@ -28,7 +28,7 @@ use Rattle.box_query.specs.Answers.{met, Answers, scanned, searched, AnswersPart
 use Rattle.box_query.specs.Needed.{AsksNeeded, AsksNeededFront, AsksSearch, needed}
 use Rattle.box_query.specs.Visited.{Visited, VisitedPart, untouched, no_start, begun, VisitedRefused, in_front, behind}
 use Rattle.fgb_tool.specs.declared.stop.Stop.{Stop}
-use Rattle.fgb_tool.specs.declared.stop.Stop.TheVariants.{Refused, SourceFailed, SinkFailed, Memory}
+use Rattle.fgb_tool.specs.declared.stop.Stop.TheVariants.{Refused, SourceFailed, SinkFailed, Memory, TooLarge}
 use Rattle.fgb_tool.specs.Causes.{IfRefused}
 use Rattle.fgb_tool.specs.Lines.{lines, answer}
 use Rattle.fgb_tool.specs.Runs.{LinesOf, LinesPart, nothing, front, LinesRefused, in_front as refused_in_front, behind as refused_behind, Headline, HeadlinePart}
@@ -117,6 +117,7 @@ refused_map (Err (Refused b)) P Q f p = f b p
 refused_map (Err SourceFailed) P Q f p = tt
 refused_map (Err SinkFailed) P Q f p = tt
 refused_map (Err Memory) P Q f p = tt
+refused_map (Err TooLarge) P Q f p = tt
 
 -- ## A query of a file
 

@@ -1,5 +1,7 @@
+mod Wording
 mod Telling
 mod Checking
+mod Packing
 mod Statuses
 mod Writing
 mod Answering

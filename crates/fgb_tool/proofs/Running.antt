@@ -1,34 +1,58 @@
--- What a run promises, from what its query or its check has left.
-use Rattle.std.proofs.Common.{◌≡◌, ◌≢◌, inl, inr, ⊎_elim, ℕ, List, Some, Result, IsErrOf, subst}
+-- What a run promises, from what its query, its check or its packing has left.
+use Rattle.std.proofs.Common.{◌≡◌, ◌≢◌, ◌⊎◌, inl, inr, ℕ, List, Option, Some, Result, Err, IsErrOf, subst}
 use Rattle.std.specs.Prelude.{OnOk}
 use Rattle.order_keys.specs.declared.bounds.Bounds.{Bounds}
 use Rattle.fgb_outside.specs.Source.{Source, IfTold, Rose}
 use Rattle.fgb_outside.specs.Sink.{Sink, AppendsPart}
-use Rattle.fgb_file.specs.File.{IsOpen, IsUnindexed, IsDeclared, BreaksFirst, IsValid}
-use Rattle.fgb_file.proofs.Passing.{first_invalid}
+use Rattle.fgb_file.specs.File.{header_in, IsFile, IsOpen, IsUnindexed, IsDeclared, BreaksFirst, IsValid}
+use Rattle.fgb_file.proofs.Passing.{first_invalid, file_sound}
 use Rattle.level_bounds.specs.Levels.{Shape}
 use Rattle.read_stop.specs.Asks.{AsksOnly}
 use Rattle.fgb_check.specs.Verdicts.{IsFileOf}
 use Rattle.fgb_reader.specs.Requests.{AsksAll, AsksFront}
+use Rattle.packed_file.specs.Packing.{IsTooLarge}
+use Rattle.fgb_pack.specs.Packs.{PacksPart}
 use Rattle.fgb_tool.specs.declared.stop.Stop.{Stop}
-use Rattle.fgb_tool.specs.declared.stop.Stop.TheVariants.{SourceFailed, SinkFailed}
+use Rattle.fgb_tool.specs.declared.stop.Stop.TheVariants.{SourceFailed, SinkFailed, TooLarge}
 use Rattle.fgb_tool.specs.Causes.{IfRefused}
 use Rattle.fgb_tool.specs.Texts.{accepted_text}
-use Rattle.fgb_tool.specs.Words.{Request, query, check}
-use Rattle.fgb_tool.specs.Runs.{IsStatus, Runs, Accepts, AcceptsPart, Checks, Does}
+use Rattle.fgb_tool.specs.Words.{Request, query, check, pack}
+use Rattle.fgb_tool.specs.Runs.{IsStatus, Runs, Accepts, AcceptsPart, Checks, WritesPacking, Repacks, Does}
 use Rattle.fgb_tool.proofs.Answering.{Queried}
 use Rattle.fgb_tool.proofs.Checking.{numbered_valid}
-use Rattle.fgb_tool.proofs.Statuses.{statuses, not_usage, at_done, at_refused, at_source, at_sink, at_memory, unfailed}
+use Rattle.fgb_tool.proofs.Statuses.{statuses, statuses_of_small, not_usage, at_done, at_refused, at_source, at_sink, at_memory, at_large, unfailed}
+
+-- ## What is left of four statuses
+
+module _ {A B C D : Type 0} where
+  done_or_memory : (B → ⊥) → (D → ⊥) → A ⊎ B ⊎ C ⊎ D → A ⊎ C
+  done_or_memory refused large (inl a) = inl a
+  done_or_memory refused large (inr (inl b)) = absurd (refused b)
+  done_or_memory refused large (inr (inr (inl c))) = inr c
+  done_or_memory refused large (inr (inr (inr d))) = absurd (large d)
+
+  refused_or_memory : (A → ⊥) → (D → ⊥) → A ⊎ B ⊎ C ⊎ D → B ⊎ C
+  refused_or_memory done large (inl a) = absurd (done a)
+  refused_or_memory done large (inr (inl b)) = inl b
+  refused_or_memory done large (inr (inr (inl c))) = inr c
+  refused_or_memory done large (inr (inr (inr d))) = absurd (large d)
+
+  large_or_memory : (A → ⊥) → (B → ⊥) → A ⊎ B ⊎ C ⊎ D → D ⊎ C
+  large_or_memory done refused (inl a) = absurd (done a)
+  large_or_memory done refused (inr (inl b)) = absurd (refused b)
+  large_or_memory done refused (inr (inr (inl c))) = inr c
+  large_or_memory done refused (inr (inr (inr d))) = inl d
 
 -- ## A query
 
 module _ {T : Type 0} (s s' : Source) (o o' e e' : Sink) (status : ℕ) (r : Result T Stop) (is : IsStatus r e e' status) where
-  runs : (box : Bounds) → Queried box s s' o o' r → Runs box s s' o o' e e' status
-  runs box q = record {
+  runs : (box : Bounds) → r ≢ Err TooLarge → Queried box s s' o o' r → Runs box s s' o o' e e' status
+  runs box never q = record {
     headline = λ zero. (at_done e e' status r _ is q.headline zero).0;
     valid_part = q.headline_part;
-    valid_done = λ image told valid source sink. ⊎_elim inl
-        (λ rest. ⊎_elim (λ one. absurd (at_refused e e' status r _ is (q.unrefused image told valid) one).2) inr rest)
+    valid_done = λ image told valid source sink. done_or_memory
+        (λ one. (at_refused e e' status r _ is (q.unrefused image told valid) one).2)
+        (λ six. never (at_large e e' status r is six).0)
         (unfailed e e' status r is (λ failed. source (q.failed failed)) (λ failed. sink (q.sink_failed failed)));
     declared = q.declared;
     search = q.search;
@@ -40,13 +64,13 @@ module _ {T : Type 0} (s s' : Source) (o o' e e' : Sink) (status : ℕ) (r : Res
     source_failed = λ three. let at = at_source e e' status r is three in (q.failed at.0, at.1);
     sink_failed = λ four. let at = at_sink e e' status r is four in (q.sink_failed at.0, at.1);
     memory = at_memory e e' status r is;
-    statuses = statuses e e' status r is;
+    statuses = statuses_of_small e e' status r never is;
     part = q.part;
   }
 
   -- the promise at what the words ask for
-  pub does_query : (file : List ℕ) (box : Bounds) (request : Request) → Queried box s s' o o' r → query file box ≡ request → (status ≢ 2) × Does request s s' o o' e e' status
-  does_query file box request q same = (not_usage e e' status r is, subst (λ asked. Does asked s s' o o' e e' status) same (runs box q))
+  pub does_query : (file : List ℕ) (box : Bounds) (request : Request) → r ≢ Err TooLarge → Queried box s s' o o' r → query file box ≡ request → (status ≢ 2) × Does request s s' o o' e e' status
+  does_query file box request never q same = (not_usage e e' status r is, subst (λ asked. Does asked s s' o o' e e' status) same (runs box never q))
 
 -- ## A check
 
@@ -64,11 +88,13 @@ pub record Checked {T : Type 0} (s s' : Source) (o o' : Sink) (result : Result T
   pub broken : IfTold s (λ image. (IsValid image → ⊥) → o' ≡ o)
   pub unwritten : IfRefused result (λ _. o' ≡ o)
   pub unread : IsErrOf result SourceFailed → o' ≡ o
+  pub never_large : result ≢ Err TooLarge
 
 module _ {T : Type 0} (s s' : Source) (o o' e e' : Sink) (status : ℕ) (r : Result T Stop) (is : IsStatus r e e' status) where
   checks : Checked s s' o o' r → Checks s s' o o' e e' status
   checks q =
       let refused : IfTold s (λ image. status ≡ 1 → IsValid image → ⊥) = λ image told one valid. first_invalid image ((at_refused e e' status r _ is q.refused one).2 image told) valid in
+      let large : status ≢ 6 = λ six. q.never_large (at_large e e' status r is six).0 in
       let accepted : IfTold s (λ image. status ≡ 0 → (IsValid image → ⊥) → ⊥) = λ image told zero invalid. invalid (numbered_valid image ((at_done e e' status r _ is q.done zero).0 image told).file) in
       record {
         done = λ zero. (at_done e e' status r _ is q.done zero).0;
@@ -78,17 +104,74 @@ module _ {T : Type 0} (s s' : Source) (o o' e e' : Sink) (status : ℕ) (r : Res
         source_failed = λ three. let at = at_source e e' status r is three in (q.unread at.0, (q.failed at.0, at.1));
         sink_failed = λ four. let at = at_sink e e' status r is four in (q.sink_failed at.0, at.1);
         memory = at_memory e e' status r is;
-        statuses = statuses e e' status r is;
+        statuses = statuses_of_small e e' status r q.never_large is;
         declared = q.declared;
         front = q.front;
         part = q.wrote;
         valid_part = λ image told features nodes file. (q.part image told features nodes file, λ one. refused image told one (numbered_valid image file));
         broken_none = λ image told invalid. (q.broken image told invalid, λ zero. accepted image told zero invalid);
-        valid_done = λ image told valid source sink. ⊎_elim inl (λ rest. ⊎_elim (λ one. absurd (refused image told one valid)) inr rest)
+        valid_done = λ image told valid source sink. done_or_memory (λ one. refused image told one valid) large
             (unfailed e e' status r is (λ failed. source (q.failed failed)) (λ failed. sink (q.sink_failed failed)));
-        broken_done = λ image told invalid source sink. ⊎_elim (λ zero. absurd (accepted image told zero invalid)) (λ rest. rest)
+        broken_done = λ image told invalid source sink. refused_or_memory (λ zero. accepted image told zero invalid) large
             (unfailed e e' status r is (λ failed. source (q.failed failed)) (λ failed. sink (q.sink_failed failed)));
       }
 
   pub does_check : (file : List ℕ) (request : Request) → Checked s s' o o' r → check file ≡ request → (status ≢ 2) × Does request s s' o o' e e' status
   does_check file request q same = (not_usage e e' status r is, subst (λ asked. Does asked s s' o o' e e' status) same (checks q))
+
+-- ## A packing
+
+-- what a packing leaves
+pub record Packed {T : Type 0} (node_size : ℕ) (s s' : Source) (o o' : Sink) (result : Result T Stop) : Type 0 where
+  pub done : OnOk result (IfTold s (λ image. IsValid image × ((index : Option Shape) (pieces : List (List ℕ)) → IsFile image index pieces
+      → WritesPacking image pieces node_size o o')))
+  pub refused : IfRefused result (λ broken. IfTold s (λ image. BreaksFirst image broken))
+  pub unwritten : IfRefused result (λ _. o' ≡ o)
+  pub too_large : result ≡ Err TooLarge → (o' ≡ o) × IfTold s (λ image. IsValid image
+      × ((index : Option Shape) (pieces : List (List ℕ)) → IsFile image index pieces → IsTooLarge (header_in image) pieces node_size))
+  pub part : IfTold s (λ image. (index : Option Shape) (pieces : List (List ℕ)) → IsFile image index pieces → PacksPart image pieces node_size o o')
+  pub large_none : IfTold s (λ image. (index : Option Shape) (pieces : List (List ℕ)) → IsFile image index pieces
+      → IsTooLarge (header_in image) pieces node_size → (o' ≡ o) × OnOk result ⊥)
+  pub broken : IfTold s (λ image. (IsValid image → ⊥) → o' ≡ o)
+  pub failed : IsErrOf result SourceFailed → Rose s.faults s'.faults
+  pub sink_failed : IsErrOf result SinkFailed → Rose o.faults o'.faults
+
+module _ {T : Type 0} (s s' : Source) (o o' e e' : Sink) (status : ℕ) (r : Result T Stop) (is : IsStatus r e e' status) where
+  repacks : (node_size : ℕ) → Packed node_size s s' o o' r → Repacks node_size s s' o o' e e' status
+  repacks node_size q =
+      let packed : IfTold s (λ image. status ≡ 0 → IsValid image) = λ image told zero. ((at_done e e' status r _ is q.done zero).0 image told).0 in
+      let refused : IfTold s (λ image. status ≡ 1 → IsValid image → ⊥) = λ image told one valid. first_invalid image ((at_refused e e' status r _ is q.refused one).2 image told) valid in
+      let left : (status ≡ 6) → (o' ≡ o) × IfTold s (λ image. IsValid image
+      × ((index : Option Shape) (pieces : List (List ℕ)) → IsFile image index pieces → IsTooLarge (header_in image) pieces node_size)) =
+      λ six. q.too_large (at_large e e' status r is six).0 in
+      let unfailed_at : (Rose s.faults s'.faults → ⊥) → (Rose o.faults o'.faults → ⊥) → (status ≡ 0) ⊎ (status ≡ 1) ⊎ (status ≡ 5) ⊎ (status ≡ 6) =
+      λ source sink. unfailed e e' status r is (λ failed. source (q.failed failed)) (λ failed. sink (q.sink_failed failed)) in
+      record {
+        done = λ zero. (at_done e e' status r _ is q.done zero).0;
+        quiet = λ zero. (at_done e e' status r _ is q.done zero).1;
+        refused = λ one. ((at_refused e e' status r _ is q.unwritten one).2, at_refused e e' status r _ is q.refused one);
+        source_failed = λ three. let at = at_source e e' status r is three in (q.failed at.0, at.1);
+        sink_failed = λ four. let at = at_sink e e' status r is four in (q.sink_failed at.0, at.1);
+        memory = at_memory e e' status r is;
+        too_large = λ six. ((left six).0, ((at_large e e' status r is six).1, (left six).1));
+        statuses = statuses e e' status r is;
+        part = q.part;
+        large_none = λ image told index pieces file large.
+            let none = q.large_none image told index pieces file large in (none.0, λ zero. (at_done e e' status r ⊥ is none.1 zero).0);
+        broken_none = λ image told invalid. (q.broken image told invalid, λ zero. invalid (packed image told zero));
+        valid_done = λ image told index pieces file fits source sink. done_or_memory
+            (λ one. refused image told one (file_sound image file))
+            (λ six. fits (((left six).1 image told).1 index pieces file))
+            (unfailed_at source sink);
+        large_done = λ image told index pieces file large source sink. large_or_memory
+            (λ zero. (at_done e e' status r ⊥ is (q.large_none image told index pieces file large).1 zero).0)
+            (λ one. refused image told one (file_sound image file))
+            (unfailed_at source sink);
+        broken_done = λ image told invalid source sink. refused_or_memory
+            (λ zero. invalid (packed image told zero))
+            (λ six. invalid ((left six).1 image told).0)
+            (unfailed_at source sink);
+      }
+
+  pub does_pack : (file : List ℕ) (node_size : ℕ) (request : Request) → Packed node_size s s' o o' r → pack file node_size ≡ request → (status ≢ 2) × Does request s s' o o' e e' status
+  does_pack file node_size request q same = (not_usage e e' status r is, subst (λ asked. Does asked s s' o o' e e' status) same (repacks node_size q))

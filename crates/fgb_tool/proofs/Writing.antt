@@ -3,7 +3,7 @@ use Rattle.std.proofs.Common.{◌≡◌, ◌≤◌, ℕ, List, [], ◌∷◌, �
 use Rattle.std.proofs.lemmas.List.{append-nil, take-append-drop}
 use Rattle.std.proofs.lemmas.Grind.{flat_map-append}
 use Rattle.fgb_outside.specs.Sink.{Sink, Appends, AppendsPart}
-use Rattle.fgb_outside.proofs.Shown.{appends_nothing, appends_appends, appends_then_part, appends_part, part_longer}
+use Rattle.fgb_outside.proofs.Shown.{appends_nothing, appends_appends, appends_then_part, part_longer}
 use Rattle.fgb_schema.specs.Headers.{Header}
 use Rattle.found_features.specs.Entries.{Entry}
 use Rattle.found_features.specs.Visits.{Takes, TakesPart, some, some_and_failed, Begins, Visits, untouched, no_start, begun}

@@ -1,4 +1,4 @@
--- What a query, a check and a run promise.
+-- What a query, a check, a packing and a run promise.
 use Rattle.std.specs.Prelude.{◌≡◌, ◌≢◌, ◌⊎◌, ℕ, List, [], Option, Some, Result, Ok, Err}
 use Rattle.order_keys.specs.declared.bounds.Bounds.{Bounds}
 use Rattle.flat_layout.specs.declared.Broken.{Broken}
@@ -12,11 +12,13 @@ use Rattle.fgb_reader.specs.Requests.{AsksAll, AsksFront}
 use Rattle.found_features.specs.Entries.{Entry}
 use Rattle.box_query.specs.Answers.{Answers, AnswersPart, Refuses}
 use Rattle.box_query.specs.Needed.{AsksNeeded, AsksNeededFront, AsksSearch}
+use Rattle.packed_file.specs.Packing.{IsPacking, IsTooLarge}
+use Rattle.fgb_pack.specs.Packs.{PacksPart}
 use Rattle.fgb_tool.specs.declared.stop.Stop.{Stop}
-use Rattle.fgb_tool.specs.declared.stop.Stop.TheVariants.{Refused, SourceFailed, SinkFailed, Memory}
+use Rattle.fgb_tool.specs.declared.stop.Stop.TheVariants.{Refused, SourceFailed, SinkFailed, Memory, TooLarge}
 use Rattle.fgb_tool.specs.Lines.{lines, answer}
-use Rattle.fgb_tool.specs.Texts.{Tells, accepted_text, refusal_text, source_text, sink_text, memory_text}
-use Rattle.fgb_tool.specs.Words.{Request, query, check}
+use Rattle.fgb_tool.specs.Texts.{Tells, accepted_text, refusal_text, source_text, sink_text, memory_text, too_large_text}
+use Rattle.fgb_tool.specs.Words.{Request, query, check, pack}
 
 -- these are found, whatever the bytes are, and their lines were written
 pub record LinesOf (image : List ℕ) (box : Bounds) (o o' : Sink) : Type 0 where
@@ -42,6 +44,7 @@ IsStatus (Err (Refused broken)) e e' status = (status ≡ 1) × Tells e e' (refu
 IsStatus (Err SourceFailed) e e' status = (status ≡ 3) × Tells e e' source_text
 IsStatus (Err SinkFailed) e e' status = (status ≡ 4) × Tells e e' sink_text
 IsStatus (Err Memory) e e' status = (status ≡ 5) × Tells e e' memory_text
+IsStatus (Err TooLarge) e e' status = (status ≡ 6) × Tells e e' too_large_text
 
 -- on a file that breaks no rule just the lines of the features whose own boxes meet the box were written, in file order,
 -- and just the needed positions were asked for: ascending, and each once
@@ -121,7 +124,43 @@ pub record Checks (s s' : Source) (o o' e e' : Sink) (status : ℕ) : Type 0 whe
   pub valid_done : IfTold s (λ image. IsValid image → (Rose s.faults s'.faults → ⊥) → (Rose o.faults o'.faults → ⊥) → (status ≡ 0) ⊎ (status ≡ 5))
   pub broken_done : IfTold s (λ image. (IsValid image → ⊥) → (Rose s.faults s'.faults → ⊥) → (Rose o.faults o'.faults → ⊥) → (status ≡ 1) ⊎ (status ≡ 5))
 
+-- the packing of the features of a file was written
+pub record WritesPacking (image : List ℕ) (pieces : List (List ℕ)) (node_size : ℕ) (o o' : Sink) : Type 0 where
+  pub bytes : List ℕ
+  pub packing : IsPacking (header_in image) pieces node_size bytes
+  pub written : Appends o o' bytes
+
+-- what a packing with nodes of so many children does, by the status that it ends with
+pub record Repacks (node_size : ℕ) (s s' : Source) (o o' e e' : Sink) (status : ℕ) : Type 0 where
+  -- 0: the file breaks no rule, and its packing was written
+  pub done : status ≡ 0 → IfTold s (λ image. IsValid image × ((index : Option Shape) (pieces : List (List ℕ)) → IsFile image index pieces
+      → WritesPacking image pieces node_size o o'))
+  pub quiet : status ≡ 0 → e' ≡ e
+  -- 1: the printed rule is broken at the printed place, in the first unit in which any is, and nothing was written
+  pub refused : status ≡ 1 → (o' ≡ o) × ((broken : Broken) × Tells e e' (refusal_text broken) × IfTold s (λ image. BreaksFirst image broken))
+  -- 3, 4 and 5: the source failed, the sink failed, or there was no memory
+  pub source_failed : status ≡ 3 → Rose s.faults s'.faults × Tells e e' source_text
+  pub sink_failed : status ≡ 4 → Rose o.faults o'.faults × Tells e e' sink_text
+  pub memory : status ≡ 5 → Tells e e' memory_text
+  -- 6: the file breaks no rule, its packing would be too large, and nothing was written
+  pub too_large : status ≡ 6 → (o' ≡ o) × (Tells e e' too_large_text × IfTold s (λ image. IsValid image
+      × ((index : Option Shape) (pieces : List (List ℕ)) → IsFile image index pieces → IsTooLarge (header_in image) pieces node_size)))
+  pub statuses : (status ≡ 0) ⊎ (status ≡ 1) ⊎ (status ≡ 3) ⊎ (status ≡ 4) ⊎ (status ≡ 5) ⊎ (status ≡ 6)
+  -- whatever the status, of a file that breaks no rule a front of its packing was written, or nothing
+  pub part : IfTold s (λ image. (index : Option Shape) (pieces : List (List ℕ)) → IsFile image index pieces → PacksPart image pieces node_size o o')
+  -- where that would be too large, nothing was written, and the status is not 0; where the file breaks a rule, neither
+  pub large_none : IfTold s (λ image. (index : Option Shape) (pieces : List (List ℕ)) → IsFile image index pieces
+      → IsTooLarge (header_in image) pieces node_size → (o' ≡ o) × (status ≢ 0))
+  pub broken_none : IfTold s (λ image. (IsValid image → ⊥) → (o' ≡ o) × (status ≢ 0))
+  -- where no count rose: a file that breaks no rule is packed, or is too large, another is refused, or there was no memory
+  pub valid_done : IfTold s (λ image. (index : Option Shape) (pieces : List (List ℕ)) → IsFile image index pieces
+      → (IsTooLarge (header_in image) pieces node_size → ⊥) → (Rose s.faults s'.faults → ⊥) → (Rose o.faults o'.faults → ⊥) → (status ≡ 0) ⊎ (status ≡ 5))
+  pub large_done : IfTold s (λ image. (index : Option Shape) (pieces : List (List ℕ)) → IsFile image index pieces
+      → IsTooLarge (header_in image) pieces node_size → (Rose s.faults s'.faults → ⊥) → (Rose o.faults o'.faults → ⊥) → (status ≡ 6) ⊎ (status ≡ 5))
+  pub broken_done : IfTold s (λ image. (IsValid image → ⊥) → (Rose s.faults s'.faults → ⊥) → (Rose o.faults o'.faults → ⊥) → (status ≡ 1) ⊎ (status ≡ 5))
+
 -- what was asked for is done
 abbrev pub Does : Request → Source → Source → Sink → Sink → Sink → Sink → ℕ → Type 0
 Does (query file box) s s' o o' e e' status = Runs box s s' o o' e e' status
 Does (check file) s s' o o' e e' status = Checks s s' o o' e e' status
+Does (pack file node_size) s s' o o' e e' status = Repacks node_size s s' o o' e e' status

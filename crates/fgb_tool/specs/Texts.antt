@@ -25,6 +25,9 @@ sink_text = codes "sink failed\n"
 unfoldable pub memory_text : List ℕ
 memory_text = codes "out of memory\n"
 
+unfoldable pub too_large_text : List ℕ
+too_large_text = codes "too large\n"
+
 -- one of the counts of a sink has risen
 abbrev pub CountRose : Sink → Sink → Type 0
 CountRose old new = Rose old.faults new.faults ⊎ Rose old.wants new.wants

@@ -1,5 +1,5 @@
 // The check of a file.
-ghost use Rattle.std.specs.Prelude.{◌≡◌, ℕ, Some, OnOk, IsErrOf};
+ghost use Rattle.std.specs.Prelude.{◌≡◌, ◌≢◌, ℕ, Some, Err, OnOk, IsErrOf};
 ghost use Rattle.fgb_outside.specs.Source.{IfTold, Rose};
 ghost use Rattle.fgb_outside.specs.Sink.{AppendsPart};
 ghost use Rattle.level_bounds.specs.Levels.{Shape};
@@ -37,6 +37,7 @@ pub(crate) fn check_file<S: RangeSource, W: Sink>(
     ensures broken { IfTold (S.seen file.old) (λ image. (IsValid image → ⊥) → W.shown out.new ≡ W.shown out.old) }
     ensures unwritten { IfRefused result (λ _. W.shown out.new ≡ W.shown out.old) }
     ensures unread { IsErrOf result Stop.SourceFailed → W.shown out.new ≡ W.shown out.old }
+    ensures never_large { result ≢ Err Stop.TooLarge }
 {
     match check(alloc, file)? {
         Verdict::Accepted { features, nodes } => write_accepted(out, features, nodes)?,

@@ -1,7 +1,7 @@
 //! The calls that the program makes: [`run`] answers a command, and [`plan`] says what a command's words ask.
 //!
 //! `run` reads the words, and writes a line of each feature whose own box meets the box of a query, or says that the
-//! file breaks no rule. A query asks for no needless byte, and for each byte once; a check reads the leaves of an index
+//! file breaks no rule, or writes the packing of the file. A query asks for no needless byte, and for each byte once; a check reads the leaves of an index
 //! twice. Its contract speaks of the source's bytes and of what it was asked, of the bytes written, of the text of a
 //! refusal and of the status (`specs/Runs.antt`); the definitions that it cites are those of `fgb_file` and `box_query`.
 //!
@@ -12,6 +12,7 @@
 
 mod check;
 mod command;
+mod pack;
 mod page;
 mod query;
 mod stop;

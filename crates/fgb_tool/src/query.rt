@@ -1,5 +1,5 @@
 // The query of a file, as lines.
-ghost use Rattle.std.specs.Prelude.{◌≡◌, ◌⊎◌, ◌≤◌, ℕ, List, Option, Some, OnOk, IsOk, IsErrOf};
+ghost use Rattle.std.specs.Prelude.{◌≡◌, ◌≢◌, ◌⊎◌, ◌≤◌, ℕ, List, Option, Some, Err, OnOk, IsOk, IsErrOf};
 ghost use Rattle.level_bounds.specs.Levels.{Shape};
 ghost use Rattle.fgb_outside.specs.Source.{IfTold, Rose};
 ghost use Rattle.fgb_outside.specs.Sink.{Appends, AppendsPart};
@@ -41,6 +41,7 @@ pub(crate) fn query_file<S: RangeSource, W: Sink>(
     ensures front { IfTold (S.seen file.old) (λ image. ((t : Shape) → IsOpen image (Some t) → ⊥) → AsksFront image (S.seen file.old) (S.seen file.new)) }
     ensures failed { IsErrOf result Stop.SourceFailed → Rose (S.seen file.old).faults (S.seen file.new).faults }
     ensures sink_failed { IsErrOf result Stop.SinkFailed → Rose (W.shown out.old).faults (W.shown out.new).faults }
+    ensures never_large { result ≢ Err Stop.TooLarge }
 {
     let mut writer = Writer::new(alloc, out);
     searches_are_scans();
@@ -63,6 +64,7 @@ fn finish<W: Sink>(
     ensures sink_failed { IsErrOf result Stop.SinkFailed
         → IsErrOf asked QueryError.VisitorStopped ⊎ Rose (W.shown out.old).faults (W.shown out.new).faults }
     ensures later { (W.shown out.old).faults ≤ (W.shown out.new).faults }
+    ensures never_large { result ≢ Err Stop.TooLarge }
 {
     let written = page.write(out);
     match asked {

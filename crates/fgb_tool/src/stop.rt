@@ -1,8 +1,9 @@
 // Why the work stops before its end.
-ghost use Rattle.fgb_tool.specs.Causes.{IsCheckCause, IsQueryCause, IsSinkCause};
+ghost use Rattle.fgb_tool.specs.Causes.{IsCheckCause, IsPackCause, IsQueryCause, IsSinkCause};
 
 use fgb_check::CheckError;
 use fgb_outside::SinkError;
+use fgb_pack::PackError;
 use flat_views::Broken;
 use found_features::QueryError;
 
@@ -17,6 +18,8 @@ pub(crate) enum Stop {
     SinkFailed,
     /// There was no memory.
     Memory,
+    /// What was to be written would be larger than the format lets it be.
+    TooLarge,
 }
 
 impl From<QueryError> for Stop {
@@ -39,6 +42,20 @@ impl From<CheckError> for Stop {
         match error {
             CheckError::SourceFailed => Stop::SourceFailed,
             CheckError::Memory => Stop::Memory,
+        }
+    }
+}
+
+impl From<PackError> for Stop {
+    ghost from_gives = { IsPackCause };
+
+    fn from(error: PackError) -> Self {
+        match error {
+            PackError::Refused(broken) => Stop::Refused(broken),
+            PackError::SourceFailed => Stop::SourceFailed,
+            PackError::SinkFailed => Stop::SinkFailed,
+            PackError::TooLarge => Stop::TooLarge,
+            PackError::Memory => Stop::Memory,
         }
     }
 }

@@ -2,6 +2,7 @@
 use super::*;
 
 mod indexed;
+mod packed;
 
 use fgb_outside::{MemorySink, MemorySource};
 use std::alloc::{AllocError, Global};
@@ -242,7 +243,13 @@ fn other_words_are_refused(rt: HostRuntime) -> Result<(), Fail> {
     is_usage(&rt, &["check"])?;
     is_usage(&rt, &["check", "three.fgb", "three.fgb"])?;
     is_usage(&rt, &["check", "three.fgb", "--box=0,0,1,1"])?;
-    is_usage(&rt, &["check", "-three.fgb"])
+    is_usage(&rt, &["check", "-three.fgb"])?;
+    is_usage(&rt, &["pack", "three.fgb"])?;
+    for node in ["", "1", "65536", "00000000016", "+16", "16,"] {
+        let word = format!(in rt.alloc(); "--node={node}")?;
+        is_usage(&rt, &["pack", "three.fgb", &word])?;
+    }
+    is_usage(&rt, &["pack", "--node=16", "--node=16"])
 }
 
 /// What words ask for that do this with the file of the three points.
@@ -260,6 +267,8 @@ fn commands_are_planned(rt: HostRuntime) {
     assert_eq!(rt; plan(&QUERY), planned(Command::Query));
     assert_eq!(rt; plan(&turned), planned(Command::Query));
     assert_eq!(rt; plan(&CHECK), planned(Command::Check));
+    let packed = ["pack", "--node=16", "three.fgb"];
+    assert_eq!(rt; plan(&packed), planned(Command::Pack));
 }
 
 /// The file of the three points with these bytes at these places.

@@ -15,6 +15,8 @@ pub(crate) const SINK_FAILED: &str = "sink failed\n";
 
 pub(crate) const OUT_OF_MEMORY: &str = "out of memory\n";
 
+pub(crate) const TOO_LARGE: &str = "too large\n";
+
 /// Writes `refused: NAME at PLACE` and a line feed, piece by piece, so that it takes no memory.
 pub(crate) fn write_refusal<E: Sink>(err: &mut E, broken: Broken) -> Result<(), SinkError>
     ensures { Writing (E.shown err.old) (E.shown err.new) (refusal_text broken) result }

@@ -5,14 +5,15 @@ ghost use Rattle.fgb_tool.specs.Texts.{Tells, usage_text};
 ghost use Rattle.fgb_tool.specs.Runs.{Does, IsStatus};
 
 use crate::check::check_file;
+use crate::pack::pack_file;
 use crate::query::query_file;
 use crate::stop::Stop;
-use crate::texts::{OUT_OF_MEMORY, SINK_FAILED, SOURCE_FAILED, USAGE, write_refusal};
+use crate::texts::{OUT_OF_MEMORY, SINK_FAILED, SOURCE_FAILED, TOO_LARGE, USAGE, write_refusal};
 use crate::words::{Asked, read_words};
 use fgb_outside::{RangeSource, Sink};
 use std::alloc::Global;
 
-/// The statuses of the program: done, refused, usage, the source failed, the sink failed, no memory.
+/// The statuses of the program: done, refused, usage, the source failed, the sink failed, no memory, too large to write.
 const DONE: u8 = 0;
 
 const REFUSED: u8 = 1;
@@ -25,9 +26,11 @@ const SINK: u8 = 4;
 
 const MEMORY: u8 = 5;
 
+const LARGE: u8 = 6;
+
 /// Answers the command of the words, which do not hold the program's name, over a file, and gives the status
 /// that the program ends with. What is found is written on `out`; a text that says why there is no answer, on
-/// `err`. The commands today are `query FILE --box=MINX,MINY,MAXX,MAXY` and `check FILE`.
+/// `err`. The commands today are `query FILE --box=MINX,MINY,MAXX,MAXY`, `check FILE` and `pack FILE --node=N`.
 pub fn run<S: RangeSource, W: Sink, E: Sink>(
     alloc: Global,
     words: &[&str],
@@ -41,7 +44,8 @@ pub fn run<S: RangeSource, W: Sink, E: Sink>(
     ensures usage_text { result ≡ 2 → Tells (E.shown err.old) (E.shown err.new) usage_text }
     ensures untouched { result ≡ 2 → (S.seen file.new ≡ S.seen file.old) × (W.shown out.new ≡ W.shown out.old) }
 
-    // Else the words ask for the features that meet a box, or whether a file breaks a rule, and this is what happens.
+    // Else the words ask for the features that meet a box, whether a file breaks a rule, or for its packing, and this is
+    // what happens.
     ensures asked { result ≢ 2 → (request : Request) × Asks (texts words.now) request }
     ensures does { (request : Request) → Asks (texts words.now) request → (result ≢ 2)
         × Does request (S.seen file.old) (S.seen file.new) (W.shown out.old) (W.shown out.new) (E.shown err.old) (E.shown err.new) result }
@@ -53,6 +57,9 @@ pub fn run<S: RangeSource, W: Sink, E: Sink>(
         }
         Some(Asked::Query(sought)) => status_of(query_file(alloc, sought.bounds, file, out), err),
         Some(Asked::Check(_)) => status_of(check_file(alloc, file, out), err),
+        Some(Asked::Pack(packing)) => {
+            status_of(pack_file(alloc, packing.node_size, file, out), err)
+        }
     }
 }
 
@@ -77,6 +84,10 @@ fn status_of<E: Sink>(done: Result<(), Stop>, err: &mut E) -> u8
         Err(Stop::Memory) => {
             let _ = err.write(OUT_OF_MEMORY.as_bytes());
             MEMORY
+        }
+        Err(Stop::TooLarge) => {
+            let _ = err.write(TOO_LARGE.as_bytes());
+            LARGE
         }
     }
 }

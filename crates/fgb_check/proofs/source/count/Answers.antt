@@ -1,5 +1,6 @@
 use Rattle.std.proofs.Common.{◌+◌, Some, sym, ap, ◌∙◌}
 use Rattle.level_bounds.specs.Shapes.{shape_of}
+use Rattle.fgb_outside.proofs.Shown.{keeps_trans}
 use Rattle.read_stop.proofs.Asking.{asks_then, front_only}
 use Rattle.read_stop.proofs.Stopping.{on_err}
 use Rattle.fgb_reader.proofs.Whole.{whole_front, front_of_start, front_of_header, front_behind, front_in_features, asks_all}
@@ -110,3 +111,27 @@ pub returns-clause-asked : goal.returns-clause-asked
 returns-clause-asked g c = λ image told unindexed. let read = c.in_ok-buffer.ensures in
     let start = c.in_ok-len.ensures.start image told in
     asks_all image c.size-size.result c.in_ok-len.len (c.size-size.ensures.image image told) start.0 start.1 unindexed c.in_ok-len.ensures.reads c.in_ok-len.ensures.few read.reads read.few c.in_ok-features-in-None.ensures.reads c.in_ok-features-in-None.ensures.few
+
+pub returns-in_err-len-clause-keeps : goal.returns-in_err-len-clause-keeps
+returns-in_err-len-clause-keeps g c = c.in_err-len.ensures.front.keeps
+
+pub returns-in_err-buffer-clause-keeps : goal.returns-in_err-buffer-clause-keeps
+returns-in_err-buffer-clause-keeps g c = keeps_trans c.in_ok-len.ensures.reads.keeps c.in_err-buffer.ensures.front.keeps
+
+pub returns-in_err-header-clause-keeps : goal.returns-in_err-header-clause-keeps
+returns-in_err-header-clause-keeps g c = keeps_trans c.in_ok-len.ensures.reads.keeps c.in_ok-buffer.ensures.reads.keeps
+
+pub returns-in_err-levels-clause-keeps : goal.returns-in_err-levels-clause-keeps
+returns-in_err-levels-clause-keeps g c = keeps_trans c.in_ok-len.ensures.reads.keeps c.in_ok-buffer.ensures.reads.keeps
+
+pub returns-in_err-features-in-Some-clause-keeps : goal.returns-in_err-features-in-Some-clause-keeps
+returns-in_err-features-in-Some-clause-keeps g c = keeps_trans (keeps_trans c.in_ok-len.ensures.reads.keeps c.in_ok-buffer.ensures.reads.keeps) c.in_err-features-in-Some.ensures.asked.keeps
+
+pub returns-in-Some-clause-keeps : goal.returns-in-Some-clause-keeps
+returns-in-Some-clause-keeps g c = keeps_trans (keeps_trans c.in_ok-len.ensures.reads.keeps c.in_ok-buffer.ensures.reads.keeps) c.in_ok-features-in-Some.ensures.asked.keeps
+
+pub returns-in_err-features-in-None-clause-keeps : goal.returns-in_err-features-in-None-clause-keeps
+returns-in_err-features-in-None-clause-keeps g c = keeps_trans (keeps_trans c.in_ok-len.ensures.reads.keeps c.in_ok-buffer.ensures.reads.keeps) c.in_err-features-in-None.ensures.front.keeps
+
+pub returns-clause-keeps : goal.returns-clause-keeps
+returns-clause-keeps g c = keeps_trans (keeps_trans c.in_ok-len.ensures.reads.keeps c.in_ok-buffer.ensures.reads.keeps) c.in_ok-features-in-None.ensures.reads.keeps

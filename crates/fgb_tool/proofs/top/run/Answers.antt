@@ -3,7 +3,7 @@ use Rattle.fgb_tool.specs.Asking.{request_of}
 use Rattle.fgb_tool.specs.Texts.{usage_text}
 use Rattle.fgb_tool.proofs.Telling.{tells_once}
 use Rattle.fgb_tool.proofs.Answering.{Queried}
-use Rattle.fgb_tool.proofs.Running.{does_query, Checked, does_check}
+use Rattle.fgb_tool.proofs.Running.{does_query, Checked, does_check, Packed, does_pack}
 use Rattle.fgb_tool.proofs.top.run.Goals as goal
 
 pub returns-in-None-clause-usage_text : goal.returns-in-None-clause-usage_text
@@ -27,7 +27,7 @@ returns-in-Some-Query-clause-does g c = λ request asks.
       failed = left.failed;
       sink_failed = left.sink_failed;
     } in
-    does_query _ _ _ _ _ _ _ c.query_file.result c.status_of.ensures sought.file.now sought.bounds request queried (ap request_of (sym c.in-Some-Query.field-0-is) ∙ c.in-Some-Query.ensures.only request asks)
+    does_query _ _ _ _ _ _ _ c.query_file.result c.status_of.ensures sought.file.now sought.bounds request left.never_large queried (ap request_of (sym c.in-Some-Query.field-0-is) ∙ c.in-Some-Query.ensures.only request asks)
 
 pub returns-in-Some-Check-clause-does : goal.returns-in-Some-Check-clause-does
 returns-in-Some-Check-clause-does g c = λ request asks.
@@ -45,5 +45,22 @@ returns-in-Some-Check-clause-does g c = λ request asks.
       broken = left.broken;
       unwritten = left.unwritten;
       unread = left.unread;
+      never_large = left.never_large;
     } in
     does_check _ _ _ _ _ _ _ c.check_file.result c.status_of-in-Some-Check.ensures file request checked (ap request_of (sym c.in-Some-Check.field-0-is) ∙ c.in-Some-Check.ensures.only request asks)
+
+pub returns-in-Some-Pack-clause-does : goal.returns-in-Some-Pack-clause-does
+returns-in-Some-Pack-clause-does g c = λ request asks.
+    let left = c.pack_file.ensures in let packing = c.in-Some-Pack.packing in
+    let packed : Packed packing.node_size (g.S.RangeSource.seen c.args.file.now) (g.S.RangeSource.seen c.pack_file.new.file) (g.W.Sink.shown c.args.out.now) (g.W.Sink.shown c.pack_file.new.out) c.pack_file.result = record {
+      done = left.done;
+      refused = left.refused;
+      unwritten = left.unwritten;
+      too_large = left.too_large;
+      part = left.part;
+      large_none = left.large_none;
+      broken = left.broken;
+      failed = left.failed;
+      sink_failed = left.sink_failed;
+    } in
+    does_pack _ _ _ _ _ _ _ c.pack_file.result c.status_of-in-Some-Pack.ensures packing.file.now packing.node_size request packed (ap request_of (sym c.in-Some-Pack.field-0-is) ∙ c.in-Some-Pack.ensures.only request asks)

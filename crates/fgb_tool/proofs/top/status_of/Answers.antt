@@ -1,5 +1,5 @@
 use Rattle.std.proofs.Common.{refl}
-use Rattle.fgb_tool.specs.Texts.{source_text, sink_text, memory_text}
+use Rattle.fgb_tool.specs.Texts.{source_text, sink_text, memory_text, too_large_text}
 use Rattle.fgb_tool.proofs.Telling.{tells_once}
 use Rattle.fgb_tool.proofs.top.status_of.Goals as goal
 
@@ -20,3 +20,9 @@ unfolding memory_text
 returns-in-Err-Memory g c =
     let stop = c.in-Err-Memory in
     rw (stop.is, rw stop.is at stop.field-0-is) (refl, rw c.as_bytes-in-Err-Memory.ensures.value at (tells_once _ _ _ _ c.write-in-Err-Memory.ensures))
+
+pub returns-in-Err-TooLarge : goal.returns-in-Err-TooLarge
+unfolding too_large_text
+returns-in-Err-TooLarge g c =
+    let stop = c.in-Err-TooLarge in
+    rw (stop.is, rw stop.is at stop.field-0-is) (refl, rw c.as_bytes-in-Err-TooLarge.ensures.value at (tells_once _ _ _ _ c.write-in-Err-TooLarge.ensures))

@@ -1,17 +1,10 @@
-use Rattle.std.proofs.Common.{◌≡◌, ◌⊎◌, inl, inr, ℕ, ◌<◌, ◌≤◌, ◌∷◌, [], ◌++◌, List, length, get_or, codes, IsTrue, refl, arith}
-use Rattle.std.specs.Borrow.{Bor}
+use Rattle.std.proofs.Common.{◌≡◌, ◌⊎◌, inl, inr, ℕ, ◌∷◌, [], ◌++◌, List, codes, IsTrue, refl}
 use Rattle.order_keys.specs.Words.{SpellsBox}
 use Rattle.fgb_tool.specs.declared.words.Query.{Query}
-use Rattle.fgb_tool.specs.Words.{texts, is_file_word, AsksQuery}
+use Rattle.fgb_tool.specs.Words.{is_file_word, AsksQuery}
+use Rattle.fgb_tool.proofs.Wording.{two}
 use Rattle.fgb_tool.proofs.words.read_query.Goals as goal
 use Rattle.fgb_tool.proofs.words.read_query.Goals.{in-Some+in_ok-query-in-Some, in-None+in_ok-box_text-in-None+in_ok-query-in-None}
-
--- the texts of two words
-two : (ws : List (Bor (List ℕ))) (d : Bor (List ℕ)) → 2 ≤ length ws → length ws < 3 → texts ws ≡ (get_or ws 0 d).now ∷ (get_or ws 1 d).now ∷ []
-two [] d at_least below = absurd (omega (arith, at_least))
-two (a ∷ []) d at_least below = absurd (omega (arith, at_least))
-two (a ∷ b ∷ []) d at_least below = refl
-two (a ∷ b ∷ c ∷ rest) d at_least below = absurd (omega (arith, below))
 
 -- the word of the box stands behind the file word, or in front of it
 asks : (words : List (List ℕ)) (first second file box : List ℕ) (q r : Query) → words ≡ first ∷ second ∷ [] → r ≡ q → ((first ≡ file) × (second ≡ codes "--box=" ++ box)) ⊎ ((first ≡ codes "--box=" ++ box) × (second ≡ file))

@@ -1,0 +1,5 @@
+pub mod Joins
+pub mod Extents
+pub mod Places
+pub mod Ranks
+pub mod Rising

@@ -1,0 +1,4 @@
+pub mod Causes
+pub mod Copies
+pub mod Spans
+pub mod Walks
