@@ -6,3 +6,4 @@ mod LinkedRead
 mod FeatureFields
 mod FeatureMeter
 mod FeaturePairs
+mod GeometryUnder

@@ -1,17 +1,17 @@
 // A feature.
-ghost use Rattle.std.specs.Prelude.{◌≡◌, ◌+◌, ◌^◌, ◌≤◌, length, option_map};
+ghost use Rattle.std.specs.Prelude.{◌≡◌, ◌+◌, ◌*◌, ◌^◌, ◌≤◌, length, option_map, IfErr, IfOk};
 ghost use Rattle.flat_layout.specs.Layout.{place_in, target};
-ghost use Rattle.flat_layout.specs.Promises.{Judges};
+ghost use Rattle.flat_layout.specs.Promises.{Judges, Names};
 ghost use Rattle.flat_views.specs.Meters.{left_of, meter_place};
 ghost use Rattle.flat_views.specs.Tables.{base_of, bytes_of, place_of};
 ghost use Rattle.flat_views.specs.Vectors.{ShowsVector};
 ghost use Rattle.geometry_view.specs.Views.{geometry_shown};
-ghost use Rattle.fgb_schema.specs.Headers.{holding, types};
+ghost use Rattle.fgb_schema.specs.Headers.{Header, holding, types};
 ghost use Rattle.fgb_schema.specs.Paths.{feature_part, feature_root, geometry_field, properties_field};
 ghost use Rattle.fgb_schema.specs.Weights.{BreaksBuffer, Goes};
 ghost use Rattle.fgb_schema.specs.Properties.{BreaksProperties};
 ghost use Rattle.fgb_schema.specs.Shapes.{shape_at};
-ghost use Rattle.fgb_schema.specs.Features.{own_box};
+ghost use Rattle.fgb_schema.specs.Features.{feature_of, own_box};
 ghost use Rattle.fgb_header.specs.Views.{columns_shown, header_shown};
 ghost use Rattle.fgb_feature.specs.Lists.{bytes_shown, first_place};
 ghost use Rattle.fgb_feature.specs.Views.{ShowsFeature, feature_shown, held_shown, properties_of};
@@ -28,6 +28,9 @@ const GEOMETRY: u16 = 0;
 const PROPERTIES: u16 = 1;
 
 const COLUMNS: u16 = 2;
+
+/// What a table weighs by itself.
+const TABLE: u64 = 4;
 
 /// A feature, each field of which was read under its header. (FlatGeobuf, feature.fbs, table Feature)
 #[derive(Clone, Copy)]
@@ -59,7 +62,7 @@ impl<'a> FeatureView<'a> {
             Judges base (BreaksBuffer bytes.now (feature_root h)) (ShowsFeature h bytes.now (target bytes.now 0)) result }
     {
         let table = Buf::new(bytes, base).root()?;
-        let mut meter = Meter::new(bytes.len() as u64, base);
+        let mut meter = meter_for(bytes, base);
         FeatureView::in_table(table, header, &mut meter)
     }
 
@@ -73,7 +76,7 @@ impl<'a> FeatureView<'a> {
         ensures { let h = header_shown header.now in let b = bytes_of table.entry in let t = place_of table.entry in
             Goes (base_of table.entry) b (feature_part h t) (meter_place meter.old) (left_of meter.old) (left_of meter.new) (ShowsFeature h b t) result }
     {
-        meter.spend(4)?;
+        meter.spend(TABLE)?;
         let geometry = geometry_in(table, header.geometry_type(), meter)?;
         let list = properties_in(table, meter)?;
         let columns = Columns::in_field(table, COLUMNS, meter)?;
@@ -115,6 +118,40 @@ impl<'a> FeatureView<'a> {
             None => Bounds::empty(),
         }
     }
+}
+
+/// The geometry of the feature in a buffer of at most 268,435,456 bytes, the first of which stands at `base` in the
+/// file, under a header of this geometry type: what [`FeatureView::read`] shows, without a look at the properties and
+/// the own columns.
+///
+/// Refuses what is broken on the way to the geometry and in it: Offset, Vtable, Field or Vector; Kind or Depth at its
+/// table; PairCount, PointCount, Ends or Ordinates at a vector; NotFinite at a pattern; Weight at `base` where the
+/// feature's table and the geometry weigh more than four times the buffer. So it refuses no buffer that breaks no rule
+/// under such a header. (FlatGeobuf, feature.fbs)
+pub fn geometry_under<'a>(
+    bytes: &'a [u8],
+    base: u64,
+    geometry_type: u8,
+) -> Result<Option<GeometryView<'a>>, Broken>
+    requires small { length bytes.now ≤ 268435456 }
+    requires near { base ≤ 2 ^ 48 }
+    ensures shown { IfOk result (λ g. (h : Header) → h.geometry_type ≡ geometry_type → option_map geometry_shown g ≡ (feature_of h bytes.now).shape) }
+    ensures refused { IfErr result (λ e. (h : Header) → h.geometry_type ≡ geometry_type → Names base (BreaksBuffer bytes.now (feature_root h)) e) }
+{
+    let table = Buf::new(bytes, base).root()?;
+    let mut meter = meter_for(bytes, base);
+    meter.spend(TABLE)?;
+    geometry_in(table, geometry_type, &mut meter)
+}
+
+/// A meter for a buffer, the first byte of which stands at `base` in the file.
+#[inline(always)]
+fn meter_for(bytes: &[u8], base: u64) -> Meter
+    requires { length bytes.now ≤ 268435456 }
+    ensures left { left_of result ≡ 4 * length bytes.now }
+    ensures place { meter_place result ≡ base }
+{
+    Meter::new(bytes.len() as u64, base)
 }
 
 /// The geometry of the feature in a table, under a header of this geometry type and under a meter.

@@ -3,6 +3,7 @@ ghost use Rattle.std.specs.Prelude.{◌≤◌, length};
 use super::*;
 use fgb_header::HeaderView;
 use flat_views::{Broken, Rule};
+use geometry_view::Kind;
 use order_keys::{Bounds, Coord};
 use std::test::Fail;
 
@@ -135,6 +136,19 @@ fn boxes(rt: HostRuntime) -> Result<(), Fail> {
         bytes[at] = value;
         assert_eq!(rt; box_under(&bytes, geometry_type)?, want, "{value} at {at}");
     }
+    Ok(())
+}
+
+#[test]
+fn geometry_alone(rt: HostRuntime) -> Result<(), Fail> {
+    let Some(point) = geometry_under(&POINT, 1000, 1)? else {
+        return Err(Fail::new("no geometry"));
+    };
+    assert_eq!(rt; point.kind(), Kind::Point);
+    assert_eq!(rt; point.points(), 1);
+    let (x, y) = point.xy(0);
+    assert_eq!(rt; x, Coord(0x3ff0_0000_0000_0000));
+    assert_eq!(rt; y, Coord(0x4000_0000_0000_0000));
     Ok(())
 }
 

@@ -23,7 +23,7 @@ use Rattle.fgb_schema.proofs.TablesParts.{entry_parts}
 use Rattle.fgb_schema.proofs.TablesRead.{Refuses, behind_clean}
 use Rattle.fgb_schema.proofs.Weighing.{least_none, least_of, heavier, least_tables, weigh_offset}
 use Rattle.fgb_header.specs.declared.column.ColumnView.{ColumnView}
-use Rattle.fgb_header.specs.Views.{column_shown, column_weight, listed}
+use Rattle.fgb_header.specs.Parts.{column_shown, column_weight, listed}
 use Rattle.fgb_header.proofs.RecordWeights.{column_weighs}
 
 -- the column of an entry was read, and then its weight is spent

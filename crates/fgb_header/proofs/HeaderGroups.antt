@@ -16,11 +16,11 @@ use Rattle.fgb_schema.specs.Weights.{text_weight}
 use Rattle.fgb_schema.proofs.Roots.{readable, from_scalar, scalar_clean}
 use Rattle.fgb_schema.proofs.FieldParts.{from_text, text_clean, from_numbers, vector_clean}
 use Rattle.fgb_schema.proofs.TableParts.{from_field, from_table, table_clean}
-use Rattle.fgb_header.specs.declared.header.Own.{Own}
+use Rattle.fgb_header.specs.declared.groups.Own.{Own}
 use Rattle.fgb_header.specs.declared.columns.Columns.{Columns}
-use Rattle.fgb_header.specs.Views.{columns_shown, header_shown}
+use Rattle.fgb_header.specs.Parts.{columns_shown}
 use Rattle.fgb_header.specs.Groups.{BreaksTexts, in_name, in_title, in_description, in_metadata, BreaksFlags, in_z, in_m, in_t, in_tm, BreaksKind, in_kind, other_kind, BreaksNodeSize, in_node_size, other_node_size, BreaksOwn, by_texts, by_envelope, by_kind, by_flags, by_count, by_node_size, by_crs, crs_field, envelope_in}
-use Rattle.fgb_header.specs.GroupViews.{ShowsOwn}
+use Rattle.fgb_header.specs.GroupViews.{ShowsOwn, fields_shown}
 
 -- a text is in its buffer
 short : (b : List ℕ) (p : ℕ) → length (text b p) ≤ length b
@@ -170,7 +170,7 @@ pub envelope-present : (b : List ℕ) (t : ℕ) → is_absent b t 1 ≡ false �
 envelope-present b t present = rw present refl
 
 -- a header is what its groups and its columns show
-pub header_is : (b : List ℕ) (t : ℕ) (own : Own) (columns : Columns) → ShowsOwn b t own → columns_shown columns ≡ columns_in b t 7 → header_shown (record { own = own; columns = columns }) ≡ header_at b t
+pub header_is : (b : List ℕ) (t : ℕ) (own : Own) (columns : Columns) → ShowsOwn b t own → columns_shown columns ≡ columns_in b t 7 → fields_shown own columns ≡ header_at b t
 unfolding header_at
 header_is b t own columns shows same = rw (
   shows.texts.name,

@@ -23,7 +23,7 @@ use Rattle.fgb_schema.proofs.FieldParts.{from_linked_table, to_table_clean, from
 use Rattle.fgb_schema.proofs.Weighing.{weigh_absent, weigh_link, least_link, least_heavier, heavier}
 use Rattle.fgb_header.specs.declared.crs.CrsView.{CrsView}
 use Rattle.fgb_header.specs.declared.columns.Columns.{Columns}
-use Rattle.fgb_header.specs.Views.{crs_shown, columns_shown}
+use Rattle.fgb_header.specs.Parts.{crs_shown, columns_shown}
 use Rattle.fgb_header.specs.Groups.{crs_field}
 
 module _ (b : List ℕ) (t : ℕ) where

@@ -19,7 +19,7 @@ use Rattle.fgb_schema.proofs.FieldParts.{from_to_table, from_linked_table}
 use Rattle.fgb_schema.proofs.FieldWeights.{weigh_text, weigh_vector}
 use Rattle.fgb_schema.proofs.TableParts.{field_part}
 use Rattle.fgb_schema.proofs.Weighing.{WeighTogether, IsLeast, AreLeast, together_none, together_more, least_more, least_of, least_together, least_heavier, least_table, heavier, weigh_absent, weigh_link, weigh_scalar, weigh_table}
-use Rattle.fgb_header.specs.declared.header.Own.{Own}
+use Rattle.fgb_header.specs.declared.groups.Own.{Own}
 use Rattle.fgb_header.specs.Groups.{BreaksOwn, by_texts, by_envelope, by_crs, in_name, in_title, in_description, in_metadata, crs_field, envelope_in}
 use Rattle.fgb_header.specs.GroupViews.{ShowsOwn, crs_part_weight, own_weight}
 use Rattle.fgb_header.proofs.HeaderGroups.{◌◁◌, columns_broken, envelope-absent, envelope-present}

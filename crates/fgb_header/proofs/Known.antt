@@ -1,5 +1,5 @@
 -- What is known of a header that was read.
-use Rattle.std.proofs.Common.{◌≡◌, ◌≢◌, ◌∙◌, ℕ, ◌≤◌, nat_le, true, false, List, length, Option, Some, None, inl, inr, refl, ap, sym, subst, arith}
+use Rattle.std.proofs.Common.{◌≡◌, ℕ, ◌≤◌, nat_le, true, List, length, Option, Some, None, inl, inr, refl, arith}
 use Rattle.std.specs.Option.{ForSome}
 use Rattle.std.proofs.lemmas.Bool.{cases_Bool}
 use Rattle.std.proofs.lemmas.Bool.Decides.{nat_tests}
@@ -9,10 +9,9 @@ use Rattle.flat_layout.specs.Promises.{IsClean}
 use Rattle.flat_views.specs.declared.vectors.TableVec.{TableVec}
 use Rattle.flat_views.specs.TableVecs.{tables_bytes, tables_place}
 use Rattle.flat_views.proofs.Placed.{sound_list}
-use Rattle.fgb_schema.specs.Tables.{column, tables as tables_thing}
-use Rattle.fgb_schema.specs.Paths.{thing, here, Breaks, BreaksMore, columns_part}
+use Rattle.fgb_schema.specs.Paths.{here, Breaks, BreaksMore, columns_part}
 use Rattle.fgb_header.specs.declared.columns.Columns.{Columns}
-use Rattle.fgb_header.specs.Views.{columns_shown, listed}
+use Rattle.fgb_header.specs.Parts.{columns_shown, listed}
 use Rattle.fgb_header.proofs.Entries.{listed_length}
 
 up_to : (n : ℕ) → nat_le n 65536 ≡ true → n ≤ 65536

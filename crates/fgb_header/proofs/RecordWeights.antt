@@ -10,7 +10,7 @@ use Rattle.fgb_schema.specs.Weights.{Weighs, text_weight, total}
 use Rattle.fgb_schema.proofs.TableParts.{field_part}
 use Rattle.fgb_schema.proofs.Weighing.{WeighTogether, together_each, weigh_scalar, weigh_table}
 use Rattle.fgb_schema.proofs.FieldWeights.{weigh_text}
-use Rattle.fgb_header.specs.Views.{crs_weight, column_weight}
+use Rattle.fgb_header.specs.Parts.{crs_weight, column_weight}
 use Rattle.fgb_header.proofs.RecordFields.{◌&◌, TextClean, BreaksName, crs_from_text, column_from_text, column_from_name, name_present}
 
 module _ (b : List ℕ) (t : ℕ) where

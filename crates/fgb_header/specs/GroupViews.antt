@@ -3,12 +3,13 @@ use Rattle.std.specs.Prelude.{◌≡◌, ℕ, ◌+◌, ◌*◌, List, length, Op
 use Rattle.std.specs.Option.{option_map}
 use Rattle.flat_layout.specs.Layout.{number_in, text_in, place_in}
 use Rattle.flat_views.specs.Vectors.{longs_shown}
-use Rattle.fgb_schema.specs.Headers.{Crs, crs_at, flag_in}
+use Rattle.fgb_schema.specs.Headers.{Crs, Header, crs_at, flag_in, header_at}
 use Rattle.fgb_schema.specs.Weights.{text_weight}
-use Rattle.fgb_header.specs.declared.header.Texts.{Texts}
-use Rattle.fgb_header.specs.declared.header.Flags.{Flags}
-use Rattle.fgb_header.specs.declared.header.Own.{Own}
-use Rattle.fgb_header.specs.Views.{crs_shown, crs_weight}
+use Rattle.fgb_header.specs.declared.columns.Columns.{Columns}
+use Rattle.fgb_header.specs.declared.groups.Texts.{Texts}
+use Rattle.fgb_header.specs.declared.groups.Flags.{Flags}
+use Rattle.fgb_header.specs.declared.groups.Own.{Own}
+use Rattle.fgb_header.specs.Parts.{crs_shown, crs_weight, columns_shown}
 use Rattle.fgb_header.specs.Groups.{envelope_in}
 
 pub record ShowsTexts (b : List ℕ) (t : ℕ) (texts : Texts) : Type 0 where
@@ -47,3 +48,26 @@ crs_part_weight (Some c) = crs_weight c
 -- the table, and all below it but the columns
 abbrev pub own_weight : Own → ℕ
 own_weight own = 4 + texts_weight own.texts + 8 * length (longs_shown own.envelope) + crs_part_weight (option_map crs_shown own.crs)
+
+-- the header of these fields
+abbrev pub fields_shown : Own → Columns → Header
+fields_shown own columns = record {
+  name = option_map (λ s. s.now) own.texts.name;
+  envelope = longs_shown own.envelope;
+  geometry_type = own.geometry_type;
+  has_z = own.flags.z;
+  has_m = own.flags.m;
+  has_t = own.flags.t;
+  has_tm = own.flags.tm;
+  columns = columns_shown columns;
+  features_count = own.features_count;
+  node_size = own.node_size;
+  crs = option_map crs_shown own.crs;
+  title = option_map (λ s. s.now) own.texts.title;
+  description = option_map (λ s. s.now) own.texts.description;
+  metadata = option_map (λ s. s.now) own.texts.metadata;
+}
+
+-- of the table at t
+abbrev pub ShowsFields : List ℕ → ℕ → Own × Columns → Type 0
+ShowsFields b t fields = fields_shown fields.0 fields.1 ≡ header_at b t

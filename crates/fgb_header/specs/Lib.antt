@@ -1,3 +1,4 @@
 pub mod Groups
+pub mod Parts
 pub mod Views
 pub mod GroupViews

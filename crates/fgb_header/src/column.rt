@@ -57,7 +57,7 @@ pub struct ColumnView<'a> {
 }
 
 impl<'a> ColumnView<'a> {
-    ghost use Rattle.fgb_header.specs.Views.{column_shown, column_weight};
+    ghost use Rattle.fgb_header.specs.Parts.{column_shown, column_weight};
 
     /// The column in a table. Refuses Field, Offset, Vector, Zero or Utf8, and at its table Required or
     /// ColumnType.

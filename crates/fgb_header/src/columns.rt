@@ -26,7 +26,7 @@ pub struct Columns<'a> {
 impl<'a> Columns<'a> {
     ghost use Rattle.flat_layout.specs.Layout.{target};
     ghost use Rattle.fgb_schema.specs.Headers.{column_at, columns_at, columns_in, types};
-    ghost use Rattle.fgb_header.specs.Views.{column_shown, columns_shown};
+    ghost use Rattle.fgb_header.specs.Parts.{column_shown, columns_shown};
 
     /// The columns of a list, under a meter, which then has less by exactly what the list and what is below
     /// it weigh: 4 for each entry and for each table, and the bytes of each text. Refuses ColumnCount, a rule

@@ -36,7 +36,7 @@ pub struct CrsView<'a> {
 }
 
 impl<'a> CrsView<'a> {
-    ghost use Rattle.fgb_header.specs.Views.{crs_shown, crs_weight};
+    ghost use Rattle.fgb_header.specs.Parts.{crs_shown, crs_weight};
 
     /// The coordinate reference system in a table. Refuses Field, Offset, Vector, Zero or Utf8.
     pub(crate) fn read(table: Table<'a>) -> Result<CrsView<'a>, Broken>

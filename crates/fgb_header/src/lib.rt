@@ -17,6 +17,7 @@
 mod column;
 mod columns;
 mod crs;
+mod groups;
 mod header;
 
 pub use column::ColumnView;

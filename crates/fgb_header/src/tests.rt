@@ -148,6 +148,17 @@ fn every_crs_field(rt: HostRuntime) -> Result<(), Fail> {
     Ok(())
 }
 
+#[test]
+fn source(rt: HostRuntime) -> Result<(), Fail> {
+    let (bytes, base) = HeaderView::read(&FULL, 12)?.source();
+    assert_eq!(rt; bytes, FULL.as_slice());
+    assert_eq!(rt; base, 12);
+    let again = HeaderView::read(bytes, base)?;
+    assert_eq!(rt; again.name(), Some("towns"));
+    assert_eq!(rt; again.columns().len(), 2);
+    Ok(())
+}
+
 /// The refusal of a header that stands behind the start of a file, and has at most 2^20 bytes.
 fn refusal(bytes: &[u8]) -> Option<Broken> {
     if bytes.len() > 1 << 20 {

@@ -11,6 +11,8 @@ use flat_layout::{Broken, Rule};
 pub struct Meter {
     left: u64,
     place: u64,
+    // 4 times the largest buffer
+    pub ghost small: { left ≤ 1073741824 },
 }
 
 impl Meter {

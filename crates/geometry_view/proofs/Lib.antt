@@ -10,3 +10,4 @@ pub mod BoxRows
 pub mod OwnNumbers
 pub mod OwnShapes
 pub mod ViewLists
+pub mod Light

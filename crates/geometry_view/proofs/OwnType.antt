@@ -240,7 +240,7 @@ module _ (b : List ℕ) (t outer k depth : ℕ) (sound : is_table b t ≡ true) 
     | inr given ↦ subst (λ o. IsClean (Breaks b (geometry_part o depth t))) (sym (given_is given.1)) clean
   ]
 
-  weight_under : (steps : ℕ) → weight_within b steps (geometry_part outer depth t) ≡ weight_within b steps (geometry_part k depth t)
+  pub weight_under : (steps : ℕ) → weight_within b steps (geometry_part outer depth t) ≡ weight_within b steps (geometry_part k depth t)
   weight_under steps = elim (eqb_tells outer 0) [
     | inl own ↦ subst (λ o. weight_within b steps (geometry_part o depth t) ≡ weight_within b steps (geometry_part k depth t)) (sym own.1)
         (same_weight b t k depth sound (subst (λ o. kind_of o b t ≡ k) own.1 holds) some steps)

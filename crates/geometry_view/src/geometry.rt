@@ -13,6 +13,7 @@ ghost use Rattle.fgb_schema.specs.Shapes.{box_of_points, pairs_of, shape_at};
 ghost use Rattle.geometry_view.specs.Fits.{ShowsRead};
 ghost use Rattle.geometry_view.specs.Kinds.{number_of};
 ghost use Rattle.geometry_view.specs.Lists.{AreFinite};
+ghost use Rattle.geometry_view.specs.Weights.{shape_weight};
 
 use crate::kind::{Kind, Ordinate};
 use crate::lists::{ENDS, PARTS, XY, tables_if, vector_if};
@@ -32,6 +33,8 @@ pub struct GeometryView<'a> {
     pub ghost shallow: { depth ≤ 16 },
     // so each vector can be read again, and each part
     pub ghost clean: { IsClean (Breaks (bytes_of table) (geometry_part (number_of kind) depth (place_of table))) },
+    // at most 4 times the largest buffer, so sizes in a tree add up without overflow
+    pub ghost light: { shape_weight (shape_at (16 - depth) (number_of kind) (bytes_of table) (place_of table)) ≤ 1073741824 },
 }
 
 impl<'a> GeometryView<'a> {
@@ -209,6 +212,8 @@ impl<'a> GeometryView<'a> {
         requires early { i < count (tables_bytes tables) (tables_place tables) }
         requires clean { IsClean (Breaks (tables_bytes tables) (thing (tables_thing (geometry_name outer depth)) (tables_place tables))) }
         requires deep { 1 ≤ depth }
+        requires light { let b = tables_bytes tables in
+            shape_weight (shape_at (16 - depth) outer b (target b (entry_place b (tables_place tables) i))) ≤ 1073741824 }
         ensures shape { let b = tables_bytes tables.entry in
             geometry_shown result ≡ shape_at (16 - depth) outer b (target b (entry_place b (tables_place tables.entry) i)) }
         ensures depth { result.depth ≡ depth }
@@ -223,6 +228,7 @@ impl<'a> GeometryView<'a> {
     fn sound_geometry(table: Table<'a>, outer: u8, depth: u8) -> GeometryView<'a>
         requires clean { IsClean (Breaks (bytes_of table) (geometry_part outer depth (place_of table))) }
         requires deep { 1 ≤ depth }
+        requires light { shape_weight (shape_at (16 - depth) outer (bytes_of table) (place_of table)) ≤ 1073741824 }
         ensures shape { geometry_shown result ≡ shape_at (16 - depth) outer (bytes_of table.entry) (place_of table.entry) }
         ensures depth { result.depth ≡ depth }
     {

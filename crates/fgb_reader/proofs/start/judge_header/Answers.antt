@@ -3,4 +3,4 @@ use Rattle.fgb_reader.proofs.Starting.{header_judged}
 use Rattle.fgb_reader.proofs.start.judge_header.Goals as goal
 
 pub returns : goal.returns
-returns c = record { judged = λ image start held. header_judged header_shown image c.args.buffer.now c.read.result start held c.read.ensures }
+returns c = record { judged = λ image start held. header_judged header_shown image c.args.buffer.now c.read.result start held c.read.ensures.judged }

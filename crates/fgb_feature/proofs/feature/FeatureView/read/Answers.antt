@@ -15,4 +15,4 @@ pub returns : goal.returns
 returns c =
     let h = header_shown c.args.header.now in
     judge_root (feature h.geometry_type (types h.columns)) _ _ _ _ _ _ _ c.in_ok-table.table (ShowsFeature h) _
-    c.new.ensures.base c.new.ensures.bytes c.in_ok-table.ensures.0 c.in_ok-table.ensures.1 c.new-meter.ensures.place c.new-meter.ensures.left c.in_table.ensures
+    c.new.ensures.base c.new.ensures.bytes c.in_ok-table.ensures.0 c.in_ok-table.ensures.1 c.meter_for-meter.ensures.place c.meter_for-meter.ensures.left c.in_table.ensures

@@ -2,7 +2,7 @@ use Rattle.std.proofs.Common.{◌<◌, Some, subst, sym, ap, ◌∙◌}
 use Rattle.std.specs.Option.{option_map}
 use Rattle.std.proofs.lemmas.Option.{slice_get-map}
 use Rattle.fgb_schema.specs.Headers.{Column}
-use Rattle.fgb_header.specs.Views.{listed}
+use Rattle.fgb_header.specs.Parts.{listed}
 use Rattle.fgb_header.proofs.Entries.{listed_length, listed_at}
 use Rattle.fgb_header.proofs.columns.Columns.kind.Goals as goal
 

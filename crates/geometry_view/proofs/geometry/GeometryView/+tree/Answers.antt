@@ -1,4 +1,4 @@
-use Rattle.std.proofs.Common.{◌≡◌, inl, ◌+◌, ◌*◌, refl, subst, ◌∙◌, arith}
+use Rattle.std.proofs.Common.{◌≡◌, inl, ◌+◌, ◌-◌, ◌*◌, refl, subst, ◌∙◌, arith}
 use Rattle.flat_layout.specs.Layout.{count, entry_place, target}
 use Rattle.flat_layout.specs.Promises.{IsClean}
 use Rattle.flat_layout.proofs.Judging.{exit, names-weaker}
@@ -13,6 +13,7 @@ use Rattle.fgb_schema.proofs.TablesParts.{entry_part}
 use Rattle.fgb_schema.proofs.TablesRead.{Refuses, AreRead, one_read, refuse_entry, all_read, refuse_table, refuse_behind, behind_clean, behind_paid}
 use Rattle.geometry_view.specs.Kinds.{number_of}
 use Rattle.geometry_view.proofs.Levels.{goes_alone, goes_with, refuse_own}
+use Rattle.geometry_view.proofs.Light.{light_paid}
 use Rattle.geometry_view.proofs.OwnType.{known_kind, some_kind, goes_under, kind_breaks, deep_breaks}
 use Rattle.geometry_view.proofs.geometry.GeometryView.+tree.Goals as goal
 
@@ -21,6 +22,16 @@ read-returns-in_err-read_tree-clause-goes t c = exit _ _ _ _ c.from_residual.ens
 
 pub read-returns-clause-goes : goal.read-returns-clause-goes
 read-returns-clause-goes t c = let read = c.in_ok-read_tree.ensures.goes in (refl, read.1, read.2)
+
+pub read-invariant_of-result : goal.read-invariant_of-result
+read-invariant_of-result t c =
+    let read = c.in_ok-read_tree.ensures.goes in record {
+      deep = c.requires.deep;
+      shallow = c.requires.shallow;
+      clean = read.1;
+      light = light_paid (bytes_of c.args.table) (16 - c.args.depth) (number_of c.args.kind) c.args.depth (place_of c.args.table) (left_of c.args.meter.now) (left_of c.read_tree.new.meter) 1073741824
+          c.args.table.sound read.1 read.2 c.args.meter.now.small;
+    }
 
 pub read_tree-returns-in_err-parts-clause-goes : goal.read_tree-returns-in_err-parts-clause-goes
 read_tree-returns-in_err-parts-clause-goes t c = exit _ _ _ _ c.from_residual.ensures.1

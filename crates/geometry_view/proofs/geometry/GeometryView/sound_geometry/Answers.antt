@@ -1,6 +1,7 @@
-use Rattle.std.proofs.Common.{◌-◌, inl, sym}
+use Rattle.std.proofs.Common.{◌-◌, ◌≤◌, inl, subst, sym}
 use Rattle.flat_views.specs.Tables.{bytes_of, place_of}
 use Rattle.geometry_view.specs.Kinds.{number_of}
+use Rattle.geometry_view.specs.Weights.{shape_weight}
 use Rattle.geometry_view.proofs.OwnType.{breaks_under, clean_shallow, kind_breaks, shape_under, some_kind}
 use Rattle.geometry_view.proofs.geometry.GeometryView.sound_geometry.Goals as goal
 
@@ -17,6 +18,8 @@ invariant_of-result c =
       shallow = clean_shallow c.args.outer c.args.depth b p c.args.table.sound c.requires.clean;
       clean = λ q r broken. c.requires.clean q r
           (breaks_under b p c.args.outer (number_of kind) c.args.depth c.args.table.sound c.in-Ok.ensures.0 (some_kind kind) (λ q r broken. c.in-Ok.ensures.1 q r (inl broken)) q r broken);
+      light = subst (λ s. shape_weight s ≤ 1073741824)
+          (shape_under b p c.args.outer (number_of kind) c.args.depth c.args.table.sound c.in-Ok.ensures.0 (some_kind kind) (λ q r broken. c.in-Ok.ensures.1 q r (inl broken)) (16 - c.args.depth)) c.requires.light;
     }
 
 pub returns-clause-shape : goal.returns-clause-shape

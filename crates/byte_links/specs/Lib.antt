@@ -1,0 +1,4 @@
+pub mod Accept
+pub mod Exchange
+pub mod Link
+pub mod Memory

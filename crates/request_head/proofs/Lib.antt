@@ -1,0 +1,5 @@
+pub mod Pieces
+pub mod Deciding
+pub mod Known
+pub mod Passed
+pub mod Founds

@@ -1,0 +1,15 @@
+pub mod Told
+pub mod Heads
+pub mod Apart
+pub mod OneShape
+pub mod Positions
+pub mod Rings
+pub mod Spelling
+pub mod SpelledIs
+pub mod SpelledShows
+pub mod Written
+pub mod Sizes
+pub mod Levels
+pub mod Recorded
+pub mod RowsSpelled
+pub mod Forms

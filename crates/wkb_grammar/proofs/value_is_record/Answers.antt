@@ -1,0 +1,5 @@
+use Rattle.wkb_grammar.proofs.Recorded.{value_is_record, wkb_is_record}
+use Rattle.wkb_grammar.proofs.value_is_record.Goals as goal
+
+pub returns : goal.returns
+returns c = record { value = value_is_record; shape = wkb_is_record }

@@ -1,0 +1,4 @@
+pub mod Grammar
+pub mod Rows
+pub mod ShapesShown
+pub mod Wkb

@@ -1,0 +1,25 @@
+//! Writes a shape as WKB, in its one little-endian spelling. (OGC 06-103r4, section 8.2)
+//!
+//! The bytes are those of `IsWkb` in `specs/Wkb`: a byte order, a type and what the type asks for, with z and m where
+//! the points have them. A shape is refused with NoWkb exactly where no WKB holds it (`HasNoWkb` in
+//! `specs/Dimensions`): some part has times, or its points are not of one dimension. A shape that was read and an owned
+//! one are walked alike: first for the dimension of its points, and then for its bytes.
+//!
+//! ```text
+//! let bytes = write_wkb(alloc, &view)?;
+//! ```
+#![tactic(auto)]
+
+mod dimension;
+mod error;
+mod laws;
+mod rows;
+mod shows;
+#[cfg(test)]
+mod tests;
+mod write;
+
+pub use dimension::Dimension;
+pub use error::WkbError;
+pub use laws::spellings_are_one;
+pub use write::{write_shape, write_wkb};
