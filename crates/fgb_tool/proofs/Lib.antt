@@ -3,6 +3,4 @@ mod Telling
 mod Checking
 mod Packing
 mod Statuses
-mod Writing
-mod Answering
 mod Running

@@ -1,7 +1,7 @@
 -- Why the work stops.
 use Rattle.std.specs.Prelude.{◌≡◌, ⊤, Result, IfErr}
-use Rattle.found_features.specs.declared.stop.QueryError.{QueryError}
-use Rattle.found_features.specs.declared.stop.QueryError.TheVariants as query_error
+use Rattle.text_query.specs.declared.error.TextError.{TextError}
+use Rattle.text_query.specs.declared.error.TextError.TheVariants as text_error
 use Rattle.fgb_check.specs.declared.verdict.CheckError.{CheckError}
 use Rattle.fgb_check.specs.declared.verdict.CheckError.TheVariants as check_error
 use Rattle.fgb_outside.specs.declared.sinks.SinkError.{SinkError}
@@ -12,12 +12,13 @@ use Rattle.flat_layout.specs.declared.Broken.{Broken}
 use Rattle.fgb_tool.specs.declared.stop.Stop.{Stop}
 use Rattle.fgb_tool.specs.declared.stop.Stop.TheVariants.{Refused, SourceFailed, SinkFailed, Memory, TooLarge}
 
--- what an error of a query stops the work as: its visitor stops where the sink fails
-abbrev pub IsQueryCause : QueryError → Stop → Type 0
-IsQueryCause (query_error.Refused broken) stop = stop ≡ Refused broken
-IsQueryCause query_error.SourceFailed stop = stop ≡ SourceFailed
-IsQueryCause query_error.VisitorStopped stop = stop ≡ SinkFailed
-IsQueryCause query_error.Memory stop = stop ≡ Memory
+-- what an error of a query that writes a text stops the work as
+abbrev pub IsTextCause : TextError → Stop → Type 0
+IsTextCause (text_error.Refused broken) stop = stop ≡ Refused broken
+IsTextCause text_error.SourceFailed stop = stop ≡ SourceFailed
+IsTextCause text_error.SinkFailed stop = stop ≡ SinkFailed
+IsTextCause text_error.TooLarge stop = stop ≡ TooLarge
+IsTextCause text_error.Memory stop = stop ≡ Memory
 
 -- what an error of a check stops the work as
 abbrev pub IsCheckCause : CheckError → Stop → Type 0

@@ -5,37 +5,21 @@ use Rattle.flat_layout.specs.declared.Broken.{Broken}
 use Rattle.fgb_outside.specs.Source.{Source, IfTold, Rose}
 use Rattle.fgb_outside.specs.Sink.{Sink, Appends, AppendsPart}
 use Rattle.level_bounds.specs.Levels.{Shape}
-use Rattle.fgb_file.specs.File.{header_in, IsOpen, IsUnindexed, IsFile, IsDeclared, BreaksFirst, BreaksInFront, IsValid}
+use Rattle.fgb_file.specs.File.{header_in, IsOpen, IsUnindexed, IsFile, IsDeclared, BreaksFirst, IsValid}
 use Rattle.read_stop.specs.Asks.{AsksOnly}
 use Rattle.fgb_check.specs.Verdicts.{IsFileOf}
 use Rattle.fgb_reader.specs.Requests.{AsksAll, AsksFront}
-use Rattle.found_features.specs.Entries.{Entry}
-use Rattle.box_query.specs.Answers.{Answers, AnswersPart, Refuses}
-use Rattle.box_query.specs.Needed.{AsksNeeded, AsksNeededFront, AsksSearch}
+use Rattle.box_query.specs.Needed.{AsksSearch}
+use Rattle.text_query.specs.Texts.{IsTooWide}
+use Rattle.text_query.specs.Written.{TextOf, TextPart, TextRefused, Headline, HeadlinePart}
+use Rattle.text_query.specs.declared.output.Output.{Output}
+use Rattle.text_query.specs.declared.output.Output.TheVariants.{Fgb}
 use Rattle.packed_file.specs.Packing.{IsPacking, IsTooLarge}
 use Rattle.fgb_pack.specs.Packs.{PacksPart}
 use Rattle.fgb_tool.specs.declared.stop.Stop.{Stop}
 use Rattle.fgb_tool.specs.declared.stop.Stop.TheVariants.{Refused, SourceFailed, SinkFailed, Memory, TooLarge}
-use Rattle.fgb_tool.specs.Lines.{lines, answer}
 use Rattle.fgb_tool.specs.Texts.{Tells, accepted_text, refusal_text, source_text, sink_text, memory_text, too_large_text}
 use Rattle.fgb_tool.specs.Words.{Request, query, check, pack}
-
--- these are found, whatever the bytes are, and their lines were written
-pub record LinesOf (image : List ℕ) (box : Bounds) (o o' : Sink) : Type 0 where
-  pub entries : List Entry
-  pub answers : Answers image box entries
-  pub written : Appends o o' (lines entries)
-
--- nothing was written, where nothing is found yet; or the lines of what is found as far as it is known, or a front of them
-pub data LinesPart (image : List ℕ) (box : Bounds) (o o' : Sink) : Type 0 where
-  nothing : Appends o o' [] → LinesPart image box o o'
-  front : {entries : List Entry} → AnswersPart image box entries → AppendsPart o o' (lines entries) → LinesPart image box o o'
-
--- the file breaks this rule at this place, in front of all features, or in what the query asks for behind; and just the
--- lines of what is found before were written
-pub data LinesRefused (image : List ℕ) (box : Bounds) (o o' : Sink) (broken : Broken) : Type 0 where
-  in_front : BreaksInFront image broken → Appends o o' [] → LinesRefused image box o o' broken
-  behind : {entries : List Entry} → Refuses image box broken entries → Appends o o' (lines entries) → LinesRefused image box o o' broken
 
 -- the status of a result, and what it leaves on the error sink
 abbrev pub IsStatus : {T : Type 0} → Result T Stop → Sink → Sink → ℕ → Type 0
@@ -46,44 +30,42 @@ IsStatus (Err SinkFailed) e e' status = (status ≡ 4) × Tells e e' sink_text
 IsStatus (Err Memory) e e' status = (status ≡ 5) × Tells e e' memory_text
 IsStatus (Err TooLarge) e e' status = (status ≡ 6) × Tells e e' too_large_text
 
--- on a file that breaks no rule just the lines of the features whose own boxes meet the box were written, in file order,
--- and just the needed positions were asked for: ascending, and each once
-pub record Headline (image : List ℕ) (index : Option Shape) (pieces : List (List ℕ)) (box : Bounds) (s s' : Source) (o o' : Sink) : Type 0 where
-  pub written : Appends o o' (answer (header_in image) box pieces)
-  pub asked : AsksNeeded image index box s s'
-
--- a front of these lines was written, and a front of these positions asked for
-pub record HeadlinePart (image : List ℕ) (index : Option Shape) (pieces : List (List ℕ)) (box : Bounds) (s s' : Source) (o o' : Sink) : Type 0 where
-  pub written : AppendsPart o o' (answer (header_in image) box pieces)
-  pub asked : AsksNeededFront image index box s s'
-
--- what a query of this box does, by the status that it ends with
-pub record Runs (box : Bounds) (s s' : Source) (o o' e e' : Sink) (status : ℕ) : Type 0 where
+-- what a query of this box that writes such a text does, by the status that it ends with
+pub record Runs (box : Bounds) (output : Output) (s s' : Source) (o o' e e' : Sink) (status : ℕ) : Type 0 where
   -- a file that breaks no rule is answered at 0, and at each other status by a front of that
-  pub headline : status ≡ 0 → IfTold s (λ image. (index : Option Shape) (pieces : List (List ℕ)) → IsFile image index pieces → Headline image index pieces box s s' o o')
-  pub valid_part : IfTold s (λ image. (index : Option Shape) (pieces : List (List ℕ)) → IsFile image index pieces → HeadlinePart image index pieces box s s' o o')
-  -- where no count rose, it is answered, or there was no memory
-  pub valid_done : IfTold s (λ image. IsValid image → (Rose s.faults s'.faults → ⊥) → (Rose o.faults o'.faults → ⊥) → (status ≡ 0) ⊎ (status ≡ 5))
+  pub headline : status ≡ 0 → IfTold s (λ image. (index : Option Shape) (pieces : List (List ℕ)) → IsFile image index pieces → Headline image index pieces box output s s' o o')
+  pub valid_part : IfTold s (λ image. (index : Option Shape) (pieces : List (List ℕ)) → IsFile image index pieces → HeadlinePart image index pieces box output s s' o o')
+  -- where no count rose, it is answered, or its header laid anew would be too large, or there was no memory
+  pub valid_done : IfTold s (λ image. IsValid image → (IsTooWide output (header_in image) → ⊥) → (Rose s.faults s'.faults → ⊥) → (Rose o.faults o'.faults → ⊥) → (status ≡ 0) ⊎ (status ≡ 5))
+  pub valid_large : IfTold s (λ image. IsValid image → IsTooWide output (header_in image) → (Rose s.faults s'.faults → ⊥) → (status ≡ 6) ⊎ (status ≡ 5))
   -- whatever the bytes, each request lies inside one section that may be asked for; what is asked for rises, each
   -- position once, and of an index just wanted nodes
   pub declared : IfTold s (λ image. AsksOnly (IsDeclared image) s s')
   pub search : IfTold s (λ image. (t : Shape) → IsOpen image (Some t) → AsksSearch image t box s s')
   pub front : IfTold s (λ image. ((t : Shape) → IsOpen image (Some t) → ⊥) → AsksFront image s s')
-  -- 0: the lines of what is found were written; a file without an index breaks no rule, and all of it was asked for
-  pub done : status ≡ 0 → IfTold s (λ image. LinesOf image box o o')
+  -- 0: the text of what is found was written; a file without an index breaks no rule, and all of it was asked for
+  pub done : status ≡ 0 → IfTold s (λ image. TextOf image box output o o')
   pub sound : status ≡ 0 → IfTold s (λ image. IsUnindexed image → IsValid image × AsksAll image s s')
   pub quiet : status ≡ 0 → e' ≡ e
-  -- 1: the printed rule is broken at the printed place, and just the lines of what is found before it were written;
+  -- 1: the printed rule is broken at the printed place, and just the text of what is found before it was written;
   -- without an index it is broken in the first unit in which any is
   pub refused : status ≡ 1 → (broken : Broken) × Tells e e' (refusal_text broken) × IfTold s (λ image.
-      LinesRefused image box o o' broken × (IsUnindexed image → BreaksFirst image broken))
+      TextRefused image box output o o' broken × (IsUnindexed image → BreaksFirst image broken))
   -- 3, 4 and 5: the source failed, the sink failed, or there was no memory
   pub source_failed : status ≡ 3 → Rose s.faults s'.faults × Tells e e' source_text
   pub sink_failed : status ≡ 4 → Rose o.faults o'.faults × Tells e e' sink_text
   pub memory : status ≡ 5 → Tells e e' memory_text
-  pub statuses : (status ≡ 0) ⊎ (status ≡ 1) ⊎ (status ≡ 3) ⊎ (status ≡ 4) ⊎ (status ≡ 5)
-  -- whatever the status, the lines of what is found were written, or a front of them
-  pub part : IfTold s (λ image. LinesPart image box o o')
+  -- 6: a file was to be written; the start, the header and the end of the index break no rule, the header laid anew would
+  -- be too large, and nothing was written
+  pub large : status ≡ 6 → Tells e e' too_large_text × IfTold s (λ image.
+      IsTooWide output (header_in image) × ((index : Option Shape) × IsOpen image index) × Appends o o' [])
+  pub large_file : status ≡ 6 → output ≡ Fgb
+  -- and it comes just there, but where the source failed before, or there was no memory
+  pub large_done : IfTold s (λ image. (index : Option Shape) → IsOpen image index → IsTooWide output (header_in image)
+      → ((status ≡ 6) ⊎ (status ≡ 5) ⊎ (status ≡ 3)) × Appends o o' [])
+  pub statuses : (status ≡ 0) ⊎ (status ≡ 1) ⊎ (status ≡ 3) ⊎ (status ≡ 4) ⊎ (status ≡ 5) ⊎ (status ≡ 6)
+  -- whatever the status, the text of what is found was written, or a front of it
+  pub part : IfTold s (λ image. TextPart image box output o o')
 
 -- the file breaks no rule, and the line with the numbers of its features and of its nodes was written
 pub record Accepts (image : List ℕ) (o o' : Sink) : Type 0 where
@@ -161,6 +143,6 @@ pub record Repacks (node_size : ℕ) (s s' : Source) (o o' e e' : Sink) (status 
 
 -- what was asked for is done
 abbrev pub Does : Request → Source → Source → Sink → Sink → Sink → Sink → ℕ → Type 0
-Does (query file box) s s' o o' e e' status = Runs box s s' o o' e e' status
+Does (query file box output) s s' o o' e e' status = Runs box output s s' o o' e e' status
 Does (check file) s s' o o' e e' status = Checks s s' o o' e e' status
 Does (pack file node_size) s s' o o' e e' status = Repacks node_size s s' o o' e e' status

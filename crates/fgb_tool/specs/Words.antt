@@ -1,20 +1,22 @@
 -- The words of a command.
-use Rattle.std.specs.Prelude.{◌≡◌, ◌⊎◌, ◌≤◌, ◌&&◌, ℕ, not, nat_eq, nat_lt, nat_le, Bool, IsTrue, List, [], ◌∷◌, ◌++◌, length, codes, map}
-use Rattle.std.specs.List.{starts_with}
+use Rattle.std.specs.Prelude.{◌≡◌, ◌⊎◌, ◌≤◌, ◌&&◌, ◌||◌, ℕ, not, nat_eq, nat_lt, nat_le, Bool, IsTrue, if◌then◌else◌, List, [], ◌∷◌, length, drop, codes, map, Option, Some, None}
+use Rattle.std.specs.List.{starts_with, filter, filter_map, list_all, list_any}
 use Rattle.std.specs.Str.{all_ascii_digits}
 use Rattle.std.specs.Str.Parse.{digits_value}
 use Rattle.std.specs.Borrow.{Bor}
 use Rattle.order_keys.specs.declared.bounds.Bounds.{Bounds}
 use Rattle.order_keys.specs.Words.{SpellsBox}
+use Rattle.text_query.specs.declared.output.Output.{Output}
+use Rattle.text_query.specs.declared.output.Output.TheVariants.{Lines, Fgb, Wkb}
 use Rattle.fgb_tool.specs.declared.command.Command.{Command}
 use Rattle.fgb_tool.specs.declared.command.Command.TheVariants.{Query, Check, Pack}
 use Rattle.fgb_tool.specs.declared.command.Target.{Target}
 use Rattle.fgb_tool.specs.declared.command.Target.TheVariants.{Nothing, File, Http}
 
--- what can be asked: for the features of this file that meet this box, whether this file breaks a rule, or for the packing
--- of this file with nodes of so many children
+-- what can be asked: for the features of this file that meet this box, in this form, whether this file breaks a rule, or
+-- for the packing of this file with nodes of so many children
 pub data Request : Type 0 where
-  query : List ℕ → Bounds → Request
+  query : List ℕ → Bounds → Output → Request
   check : List ℕ → Request
   pack : List ℕ → ℕ → Request
 
@@ -26,17 +28,46 @@ texts words = map (λ word. word.now) words
 abbrev pub is_file_word : List ℕ → Bool
 is_file_word word = nat_lt 0 (length word) && (not (starts_with nat_eq word (codes "-")) && not (starts_with nat_eq word (codes "http://")))
 
--- `query FILE --box=BOX`, the last two in either order
-pub record AsksQuery (words : List (List ℕ)) (file : List ℕ) (bounds : Bounds) : Type 0 where
+-- what a word gives an option, whose name is as `--box=`, and what these words give it
+abbrev pub value_of : List ℕ → List ℕ → Option (List ℕ)
+value_of name word = if starts_with nat_eq word name then Some (drop (length name) word) else None
+
+abbrev pub values : List ℕ → List (List ℕ) → List (List ℕ)
+values name words = filter_map (value_of name) words
+
+-- a word that can stand behind a command with these options
+abbrev pub is_known : List (List ℕ) → List ℕ → Bool
+is_known names word = is_file_word word || list_any (starts_with nat_eq word) names
+
+-- the words are a command and the rest: in any order one file word, and options of these names
+pub record IsCommand (command : List ℕ) (names words rest : List (List ℕ)) (file : List ℕ) : Type 0 where
+  pub order : words ≡ command ∷ rest
+  pub known : IsTrue (list_all (is_known names) rest)
+  pub named : filter is_file_word rest ≡ file ∷ []
+
+-- the name of an output
+abbrev pub output_name : Output → List ℕ
+output_name Lines = codes "lines"
+output_name Fgb = codes "fgb"
+output_name Wkb = codes "wkb"
+
+-- this output is named once, or it is lines, and none is named
+abbrev pub IsOutput : List (List ℕ) → Output → Type 0
+IsOutput names output = (names ≡ output_name output ∷ []) ⊎ ((names ≡ []) × (output ≡ Lines))
+
+-- `query FILE --box=BOX`, with `--out=lines`, `--out=fgb`, `--out=wkb` or none of them
+pub record AsksQuery (words : List (List ℕ)) (file : List ℕ) (bounds : Bounds) (output : Output) : Type 0 where
+  pub rest : List (List ℕ)
   pub box : List ℕ
-  pub named : IsTrue (is_file_word file)
+  pub form : IsCommand (codes "query") (codes "--box=" ∷ codes "--out=" ∷ []) words rest file
+  pub once : values (codes "--box=") rest ≡ box ∷ []
   pub spelled : SpellsBox box bounds
-  pub order : (words ≡ codes "query" ∷ file ∷ (codes "--box=" ++ box) ∷ []) ⊎ (words ≡ codes "query" ∷ (codes "--box=" ++ box) ∷ file ∷ [])
+  pub chosen : IsOutput (values (codes "--out=") rest) output
 
 -- `check FILE`
 pub record AsksCheck (words : List (List ℕ)) (file : List ℕ) : Type 0 where
-  pub named : IsTrue (is_file_word file)
-  pub order : words ≡ codes "check" ∷ file ∷ []
+  pub rest : List (List ℕ)
+  pub form : IsCommand (codes "check") [] words rest file
 
 -- 1 to 10 decimal digits, and the number that they spell
 abbrev pub is_number : List ℕ → Bool
@@ -46,18 +77,19 @@ pub record SpellsNumber (digits : List ℕ) (number : ℕ) : Type 0 where
   pub form : IsTrue (is_number digits)
   pub value : number ≡ digits_value 10 digits
 
--- `pack FILE --node=N`, the last two in either order, with a number from 2 to 65535
+-- `pack FILE --node=N`, with a number from 2 to 65535
 pub record AsksPack (words : List (List ℕ)) (file : List ℕ) (node_size : ℕ) : Type 0 where
+  pub rest : List (List ℕ)
   pub digits : List ℕ
-  pub named : IsTrue (is_file_word file)
+  pub form : IsCommand (codes "pack") (codes "--node=" ∷ []) words rest file
+  pub once : values (codes "--node=") rest ≡ digits ∷ []
   pub spelled : SpellsNumber digits node_size
   pub wide : 2 ≤ node_size
   pub narrow : node_size ≤ 65535
-  pub order : (words ≡ codes "pack" ∷ file ∷ (codes "--node=" ++ digits) ∷ []) ⊎ (words ≡ codes "pack" ∷ (codes "--node=" ++ digits) ∷ file ∷ [])
 
 -- the words ask for this
 abbrev pub Asks : List (List ℕ) → Request → Type 0
-Asks words (query file bounds) = AsksQuery words file bounds
+Asks words (query file bounds output) = AsksQuery words file bounds output
 Asks words (check file) = AsksCheck words file
 Asks words (pack file node_size) = AsksPack words file node_size
 
@@ -67,12 +99,12 @@ IsUsage words = (request : Request) → Asks words request → ⊥
 
 -- the command of a request, and its file
 abbrev pub command_of : Request → Command
-command_of (query file bounds) = Query
+command_of (query file bounds output) = Query
 command_of (check file) = Check
 command_of (pack file node_size) = Pack
 
 abbrev pub file_of : Request → List ℕ
-file_of (query file bounds) = file
+file_of (query file bounds output) = file
 file_of (check file) = file
 file_of (pack file node_size) = file
 

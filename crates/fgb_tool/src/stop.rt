@@ -1,11 +1,11 @@
 // Why the work stops before its end.
-ghost use Rattle.fgb_tool.specs.Causes.{IsCheckCause, IsPackCause, IsQueryCause, IsSinkCause};
+ghost use Rattle.fgb_tool.specs.Causes.{IsCheckCause, IsPackCause, IsSinkCause, IsTextCause};
 
 use fgb_check::CheckError;
 use fgb_outside::SinkError;
 use fgb_pack::PackError;
 use flat_views::Broken;
-use found_features::QueryError;
+use text_query::TextError;
 
 /// Why the work stops before its end.
 #[derive(Clone, Copy, Debug, PartialEq, Eq)]
@@ -22,15 +22,16 @@ pub(crate) enum Stop {
     TooLarge,
 }
 
-impl From<QueryError> for Stop {
-    ghost from_gives = { IsQueryCause };
+impl From<TextError> for Stop {
+    ghost from_gives = { IsTextCause };
 
-    fn from(error: QueryError) -> Self {
+    fn from(error: TextError) -> Self {
         match error {
-            QueryError::Refused(broken) => Stop::Refused(broken),
-            QueryError::SourceFailed => Stop::SourceFailed,
-            QueryError::VisitorStopped => Stop::SinkFailed,
-            QueryError::Memory => Stop::Memory,
+            TextError::Refused(broken) => Stop::Refused(broken),
+            TextError::SourceFailed => Stop::SourceFailed,
+            TextError::SinkFailed => Stop::SinkFailed,
+            TextError::TooLarge => Stop::TooLarge,
+            TextError::Memory => Stop::Memory,
         }
     }
 }

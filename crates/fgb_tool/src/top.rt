@@ -6,12 +6,12 @@ ghost use Rattle.fgb_tool.specs.Runs.{Does, IsStatus};
 
 use crate::check::check_file;
 use crate::pack::pack_file;
-use crate::query::query_file;
 use crate::stop::Stop;
 use crate::texts::{OUT_OF_MEMORY, SINK_FAILED, SOURCE_FAILED, TOO_LARGE, USAGE, write_refusal};
 use crate::words::{Asked, read_words};
 use fgb_outside::{RangeSource, Sink};
 use std::alloc::Global;
+use text_query::write_found;
 
 /// The statuses of the program: done, refused, usage, the source failed, the sink failed, no memory, too large to write.
 const DONE: u8 = 0;
@@ -30,7 +30,8 @@ const LARGE: u8 = 6;
 
 /// Answers the command of the words, which do not hold the program's name, over a file, and gives the status
 /// that the program ends with. What is found is written on `out`; a text that says why there is no answer, on
-/// `err`. The commands today are `query FILE --box=MINX,MINY,MAXX,MAXY`, `check FILE` and `pack FILE --node=N`.
+/// `err`. The commands today are `query FILE --box=MINX,MINY,MAXX,MAXY`, with `--out=lines`, `--out=fgb` or `--out=wkb`,
+/// `check FILE` and `pack FILE --node=N`.
 pub fn run<S: RangeSource, W: Sink, E: Sink>(
     alloc: Global,
     words: &[&str],
@@ -55,7 +56,10 @@ pub fn run<S: RangeSource, W: Sink, E: Sink>(
             let _ = err.write(USAGE.as_bytes());
             WRONG_WORDS
         }
-        Some(Asked::Query(sought)) => status_of(query_file(alloc, sought.bounds, file, out), err),
+        Some(Asked::Query(sought)) => {
+            let written = write_found(alloc, sought.bounds, sought.output, file, out);
+            status_of(written.map_err(Stop::from), err)
+        }
         Some(Asked::Check(_)) => status_of(check_file(alloc, file, out), err),
         Some(Asked::Pack(packing)) => {
             status_of(pack_file(alloc, packing.node_size, file, out), err)

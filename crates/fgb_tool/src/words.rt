@@ -1,20 +1,23 @@
 // The words of a command.
-ghost use Rattle.std.specs.Prelude.{◌≡◌, ◌≤◌, ◌∷◌, ◌++◌, [], ℕ, List, codes, IsTrue, IfSome, IfNone, IsSomeAnd};
+ghost use Rattle.std.specs.Prelude.{◌≡◌, ◌≤◌, ◌∷◌, ◌++◌, [], ℕ, List, false, codes, IfSome, IfNone, IsSomeAnd};
 ghost use Rattle.std.specs.Char.{is_ascii_digit};
 ghost use Rattle.std.specs.List.{list_all};
-ghost use Rattle.order_keys.specs.declared.bounds.Bounds.{Bounds as Box};
 ghost use Rattle.order_keys.specs.Words.{SpellsBox};
-ghost use Rattle.fgb_tool.specs.Asking.{request_of};
-ghost use Rattle.fgb_tool.specs.Words.{texts, is_file_word, is_number, Asks, IsUsage, IsFileTarget, Request, SpellsNumber, command_of, file_of};
+ghost use Rattle.text_query.specs.declared.output.Output.{Output as Choice};
+ghost use Rattle.fgb_tool.specs.Asking.{request_of, option_names, at_most_one, IsWord, Gathers, IsFit};
+ghost use Rattle.fgb_tool.specs.Words.{texts, is_file_word, is_known, is_number, Asks, IsOutput, IsUsage, IsFileTarget, Request, SpellsNumber, command_of, file_of};
 
 use crate::command::{Command, Plan, Target};
 use order_keys::{Bounds, read_box};
+use text_query::Output;
 
 /// The least node size of an index.
 const NARROWEST: u16 = 2;
 
 /// What the words, which do not hold the program's name, ask for, or None where no call accepts them. The commands
-/// today are `query FILE --box=MINX,MINY,MAXX,MAXY`, `check FILE` and `pack FILE --node=N` with N from 2 to 65535.
+/// today are `query FILE --box=MINX,MINY,MAXX,MAXY`, with `--out=lines`, `--out=fgb` or `--out=wkb`, or without for
+/// lines, `check FILE` and `pack FILE --node=N` with N from 2 to 65535. The words behind the command may come in any
+/// order.
 pub fn plan<'a>(words: &[&'a str]) -> Option<Plan<'a>>
     ensures planned { IfSome result (λ plan. (request : Request) × Asks (texts words.now) request
         × (plan.command ≡ command_of request) × IsFileTarget plan.target (file_of request) × (plan.port ≡ 0)) }
@@ -32,11 +35,12 @@ pub fn plan<'a>(words: &[&'a str]) -> Option<Plan<'a>>
     })
 }
 
-/// A query of a file.
+/// A query of a file: which features are sought, and what is written of them.
 #[derive(Clone, Copy)]
 pub(crate) struct Query<'a> {
     pub(crate) file: &'a str,
     pub(crate) bounds: Bounds,
+    pub(crate) output: Output,
 }
 
 /// The packing of a file.
@@ -65,83 +69,178 @@ pub(crate) fn read_words<'a>(words: &[&'a str]) -> Option<Asked<'a>>
     let [command, rest @ ..] = words else {
         return None;
     };
+    let given = gather(rest)?;
     match *command {
-        "query" => read_query(rest),
-        "check" => read_check(rest),
-        "pack" => read_pack(rest),
+        "query" => given.query(),
+        "check" => given.check(),
+        "pack" => given.packing(),
         _ => None,
     }
 }
 
-/// A query by the file word and the word of the box, in either order.
-fn read_query<'a>(words: &[&'a str]) -> Option<Asked<'a>>
-    ensures asked { IfSome result (λ asked. Asks (codes "query" ∷ texts words.now) (request_of asked)) }
-    ensures only { (request : Request) → Asks (codes "query" ∷ texts words.now) request → IsSomeAnd result (λ asked. request_of asked ≡ request) }
+/// What the words behind a command give, or None where one of them is unknown, or gives what was given before.
+fn gather<'a>(words: &[&'a str]) -> Option<Given<'a>>
+    ensures gathers { IfSome result (Gathers (texts words.now)) }
+    ensures unfit { IfNone result (IsFit (texts words.now) → ⊥) }
 {
-    let [first, second] = words else {
-        return None;
+    let mut given = Given {
+        file: None,
+        bounds: None,
+        output: None,
+        node_size: None,
     };
-    let query = match box_text(first) {
-        Some(text) => query_of(second, text)?,
-        None => query_of(first, box_text(second)?)?,
-    };
-    Some(Asked::Query(query))
+    for word in words {
+        given = given.with(word)?;
+    }
+    Some(given)
 }
 
-/// A check by the file word.
-fn read_check<'a>(words: &[&'a str]) -> Option<Asked<'a>>
-    ensures asked { IfSome result (λ asked. Asks (codes "check" ∷ texts words.now) (request_of asked)) }
-    ensures only { (request : Request) → Asks (codes "check" ∷ texts words.now) request → IsSomeAnd result (λ asked. request_of asked ≡ request) }
-{
-    let [file] = words else {
-        return None;
-    };
-    if is_file_word(file) {
+/// What the words behind a command give, each at most once: the file word, and the texts behind the names of options.
+#[derive(Clone, Copy)]
+struct Given<'a> {
+    file: Option<&'a str>,
+    bounds: Option<&'a str>,
+    output: Option<&'a str>,
+    node_size: Option<&'a str>,
+}
+
+impl<'a> Given<'a> {
+    /// With one more word, if it is known, and gives nothing that was given before.
+    fn with(self, word: &'a str) -> Option<Given<'a>>
+        ensures gathers { IfSome result (λ given. (before : List (List ℕ)) → Gathers before self.entry
+            → Gathers (before ++ word.now ∷ []) given) }
+        ensures unfit { IfNone result ((before after : List (List ℕ)) → Gathers before self.entry
+            → IsFit (before ++ word.now ∷ after) → ⊥) }
+    {
+        match read_word(word)? {
+            Word::File(file) if self.file.is_none() => Some(Given {
+                file: Some(file),
+                ..self
+            }),
+            Word::Bounds(text) if self.bounds.is_none() => Some(Given {
+                bounds: Some(text),
+                ..self
+            }),
+            Word::Output(name) if self.output.is_none() => Some(Given {
+                output: Some(name),
+                ..self
+            }),
+            Word::NodeSize(digits) if self.node_size.is_none() => Some(Given {
+                node_size: Some(digits),
+                ..self
+            }),
+            _ => None,
+        }
+    }
+
+    /// A query by its file word, its box and its output, if this is one.
+    fn query(self) -> Option<Asked<'a>>
+        ensures asked { IfSome result (λ asked. (rest : List (List ℕ)) → Gathers rest self.entry
+            → Asks (codes "query" ∷ rest) (request_of asked)) }
+        ensures only { (rest : List (List ℕ)) (request : Request) → Gathers rest self.entry
+            → Asks (codes "query" ∷ rest) request → IsSomeAnd result (λ asked. request_of asked ≡ request) }
+    {
+        if self.node_size.is_some() {
+            return None;
+        }
+        let file = self.file?;
+        let bounds = read_box(self.bounds?).ok()?;
+        let output = read_output(self.output)?;
+        Some(Asked::Query(Query {
+            file,
+            bounds,
+            output,
+        }))
+    }
+
+    /// A check by its file word, if this is one.
+    fn check(self) -> Option<Asked<'a>>
+        ensures asked { IfSome result (λ asked. (rest : List (List ℕ)) → Gathers rest self.entry
+            → Asks (codes "check" ∷ rest) (request_of asked)) }
+        ensures only { (rest : List (List ℕ)) (request : Request) → Gathers rest self.entry
+            → Asks (codes "check" ∷ rest) request → IsSomeAnd result (λ asked. request_of asked ≡ request) }
+    {
+        if self.bounds.is_some() || self.output.is_some() || self.node_size.is_some() {
+            return None;
+        }
+        let file = self.file?;
         Some(Asked::Check(file))
-    } else {
-        None
+    }
+
+    /// A packing by its file word and its node size, if this is one.
+    fn packing(self) -> Option<Asked<'a>>
+        ensures asked { IfSome result (λ asked. (rest : List (List ℕ)) → Gathers rest self.entry
+            → Asks (codes "pack" ∷ rest) (request_of asked)) }
+        ensures only { (rest : List (List ℕ)) (request : Request) → Gathers rest self.entry
+            → Asks (codes "pack" ∷ rest) request → IsSomeAnd result (λ asked. request_of asked ≡ request) }
+    {
+        if self.bounds.is_some() || self.output.is_some() {
+            return None;
+        }
+        let file = self.file?;
+        let node_size = read_node_size(self.node_size?)?;
+        Some(Asked::Pack(Packing { file, node_size }))
     }
 }
 
-/// A packing by the file word and the word of the node size, in either order.
-fn read_pack<'a>(words: &[&'a str]) -> Option<Asked<'a>>
-    ensures asked { IfSome result (λ asked. Asks (codes "pack" ∷ texts words.now) (request_of asked)) }
-    ensures only { (request : Request) → Asks (codes "pack" ∷ texts words.now) request → IsSomeAnd result (λ asked. request_of asked ≡ request) }
-{
-    let [first, second] = words else {
-        return None;
-    };
-    let packing = match node_text(first) {
-        Some(digits) => packing_of(second, digits)?,
-        None => packing_of(first, node_text(second)?)?,
-    };
-    Some(Asked::Pack(packing))
+/// A word behind a command.
+#[derive(Clone, Copy)]
+enum Word<'a> {
+    /// The file word.
+    File(&'a str),
+    /// The text behind `--box=`.
+    Bounds(&'a str),
+    /// The name behind `--out=`.
+    Output(&'a str),
+    /// The digits behind `--node=`.
+    NodeSize(&'a str),
 }
 
-/// The digits of the node size of a word `--node=DIGITS`.
-fn node_text(word: &str) -> Option<&str>
-    ensures some { IfSome result (λ text. word.now ≡ codes "--node=" ++ text.now) }
-    ensures none { (text : List ℕ) → word.now ≡ codes "--node=" ++ text → IsSomeAnd result (λ t. t.now ≡ text) }
+/// Reads a word behind a command.
+fn read_word(word: &str) -> Option<Word>
+    ensures is { IfSome result (IsWord word.now) }
+    ensures unknown { IfNone result (is_known option_names word.now ≡ false) }
 {
-    word.strip_prefix("--node=")
-}
-
-/// A packing by its file word and the digits of its node size.
-fn packing_of<'a>(file: &'a str, digits: &str) -> Option<Packing<'a>>
-    ensures file { IfSome result (λ packing. (packing.file.now ≡ file.now) × IsTrue (is_file_word file.now)) }
-    ensures spelled { IfSome result (λ packing. SpellsNumber digits.now packing.node_size × (2 ≤ packing.node_size)) }
-    ensures narrow { IfSome result (λ packing. packing.node_size ≤ 65535) }
-    ensures only { IsTrue (is_file_word file.now) → (n : ℕ) → SpellsNumber digits.now n → 2 ≤ n → n ≤ 65535
-        → IsSomeAnd result (λ packing. (packing.file.now ≡ file.now) × (packing.node_size ≡ n)) }
-{
-    if !is_file_word(file) {
-        return None;
+    if let Some(text) = word.strip_prefix("--box=") {
+        return Some(Word::Bounds(text));
     }
+    if let Some(name) = word.strip_prefix("--out=") {
+        return Some(Word::Output(name));
+    }
+    if let Some(digits) = word.strip_prefix("--node=") {
+        return Some(Word::NodeSize(digits));
+    }
+    if is_file_word(word) {
+        return Some(Word::File(word));
+    }
+    None
+}
+
+/// The output of a name, or lines where there is none.
+fn read_output(name: Option<&str>) -> Option<Output>
+    ensures some { IfSome result (IsOutput (at_most_one name.entry)) }
+    ensures none { (output : Choice) → IsOutput (at_most_one name.entry) output → IsSomeAnd result (λ o. o ≡ output) }
+{
+    match name {
+        None | Some("lines") => Some(Output::Lines),
+        Some("fgb") => Some(Output::Fgb),
+        Some("wkb") => Some(Output::Wkb),
+        _ => None,
+    }
+}
+
+/// Reads a node size.
+fn read_node_size(digits: &str) -> Option<u16>
+    ensures spelled { IfSome result (SpellsNumber digits.now) }
+    ensures wide { IfSome result (λ node_size. 2 ≤ node_size) }
+    ensures narrow { IfSome result (λ node_size. node_size ≤ 65535) }
+    ensures only { (n : ℕ) → SpellsNumber digits.now n → 2 ≤ n → n ≤ 65535 → IsSomeAnd result (λ node_size. node_size ≡ n) }
+{
     let node_size = u16::try_from(read_number(digits)?).ok()?;
     if node_size < NARROWEST {
         return None;
     }
-    Some(Packing { file, node_size })
+    Some(node_size)
 }
 
 /// Reads 1 to 10 decimal digits.
@@ -168,30 +267,6 @@ fn are_digits(bytes: &[u8]) -> bool
     ensures { result ≡ list_all is_ascii_digit bytes.now }
 {
     bytes.iter().all(|byte| byte.is_ascii_digit())
-}
-
-/// The text of the box of a word `--box=TEXT`.
-fn box_text(word: &str) -> Option<&str>
-    ensures some { IfSome result (λ text. word.now ≡ codes "--box=" ++ text.now) }
-    ensures none { (text : List ℕ) → word.now ≡ codes "--box=" ++ text → IsSomeAnd result (λ t. t.now ≡ text) }
-{
-    word.strip_prefix("--box=")
-}
-
-/// A query by its file word and the text of its box.
-fn query_of<'a>(file: &'a str, text: &str) -> Option<Query<'a>>
-    ensures file { IfSome result (λ query. (query.file.now ≡ file.now) × IsTrue (is_file_word file.now)) }
-    ensures spelled { IfSome result (λ query. SpellsBox text.now query.bounds) }
-    ensures only { IsTrue (is_file_word file.now) → (bounds : Box) → SpellsBox text.now bounds
-        → IsSomeAnd result (λ query. (query.file.now ≡ file.now) × (query.bounds ≡ bounds)) }
-{
-    if !is_file_word(file) {
-        return None;
-    }
-    match read_box(text) {
-        Ok(bounds) => Some(Query { file, bounds }),
-        Err(_) => None,
-    }
 }
 
 /// Whether a word can name a file.

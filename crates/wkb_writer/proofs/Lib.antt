@@ -3,5 +3,7 @@ pub mod Joins
 pub mod OnlyOne
 pub mod Wholes
 pub mod RowsAt
+pub mod Sizes
+pub mod SizesOfParts
 pub mod Trees
 pub mod Values

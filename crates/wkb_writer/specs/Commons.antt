@@ -12,6 +12,7 @@ pub record IsPointless (s : Shape) : Type 0 where
   pub no_t : (ordinates_in s).t ≡ []
   pub no_tm : (ordinates_in s).tm ≡ []
 
+-- points of its own
 abbrev pub HasPoints : Shape → Type 0
 HasPoints s = points_in s ≢ []
 

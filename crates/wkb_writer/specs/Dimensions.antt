@@ -1,5 +1,5 @@
 -- Whether the points of a value have z and m, and for which shapes one answer holds (OGC 06-103r4, section 8.2).
-use Rattle.std.specs.Prelude.{◌≡◌, ◌≢◌, ◌⊎◌, nat_lt, false, List, [], ◌∷◌, ◌++◌, length}
+use Rattle.std.specs.Prelude.{◌≡◌, ◌≢◌, ◌⊎◌, ℕ, ◌+◌, nat_lt, if◌then◌else◌, false, List, [], ◌∷◌, ◌++◌, length}
 use Rattle.std.specs.List.{All, Any}
 use Rattle.fgb_schema.specs.Shapes.{Shape, shape, Shapes, none, more, points, points_in, ordinates_in}
 pub use Rattle.wkb_writer.specs.declared.dimension.Dimension.{Dimension}
@@ -11,6 +11,10 @@ flat = record { z = false; m = false }
 -- the dimension of a shape's own points
 abbrev pub dimension_of : Shape → Dimension
 dimension_of s = record { z = nat_lt 0 (length (ordinates_in s).z); m = nat_lt 0 (length (ordinates_in s).m) }
+
+-- how many ordinates a point has: x, y, and z and m where there are such
+abbrev pub coordinate_dimension : Dimension → ℕ
+coordinate_dimension d = 2 + (if d.z then 1 else 0) + (if d.m then 1 else 0)
 
 -- a shape, and its parts at every depth
 abbrev mutual

@@ -13,11 +13,13 @@ use Rattle.owned_shape.proofs.Parts.{level_of}
 use Rattle.owned_shape.proofs.ReadShapes.{view_parts_read, view_read}
 use Rattle.wkb_writer.specs.Levels.{IsLaid, IsRing}
 
+-- rings that follow one another up to the last point lie among the points
 are_rings : (first last : ℕ) (rings : List (ℕ × ℕ)) → AreChained first last rings → All (IsRing last) rings
 are_rings first last [] chained = All-nil (IsRing last)
 are_rings first last (ring ∷ rest) chained =
     All-cons (IsRing last) ring rest (omega (arith, chained.0, chained.1), within_last ring.1 last rest chained.2) (are_rings ring.1 last rest chained.2)
 
+-- the rings of a shape whose type has them, or none
 rings_laid : (s : Shape) → (has_rings (type_in s) ≡ true → AreChained 0 (length (points_in s)) (rings_in s)) → (has_rings (type_in s) ≡ false → rings_in s ≡ [])
     → All (IsRing (length (points_in s))) (rings_in s)
 rings_laid s chained none = elim (cases_Bool (has_rings (type_in s))) [
@@ -25,6 +27,7 @@ rings_laid s chained none = elim (cases_Bool (has_rings (type_in s))) [
   | inr lacks ↦ subst (All (IsRing (length (points_in s)))) (sym (none lacks)) (All-nil (IsRing (length (points_in s))))
 ]
 
+-- the lists of a geometry that was read
 pub view_laid : (g : GeometryView) → IsLaid (geometry_shown g)
 view_laid g =
     let read = view_read g in
@@ -38,6 +41,7 @@ view_laid g =
       few_parts = below.few_parts;
     }
 
+-- the lists of an owned shape
 pub record_laid : (s : Shape) → IsRecord s → IsLaid s
 record_laid s is =
     let level = level_of s is.sound in

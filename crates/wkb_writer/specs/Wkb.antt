@@ -26,6 +26,7 @@ rows (p ∷ points) z m = (p.0 ∷ p.1 ∷ take 1 z ++ take 1 m) ∷ rows points
 abbrev pub row_bytes : List ℕ → List ℕ
 row_bytes row = flat_map (little_bytes 8) row
 
+-- the points of a line, in front of which stands how many they are
 abbrev pub line_bytes : List (List ℕ) → List ℕ
 line_bytes line = counted (map row_bytes line)
 
@@ -33,6 +34,7 @@ line_bytes line = counted (map row_bytes line)
 abbrev pub nowhere : ℕ
 nowhere = 9221120237041090560
 
+-- the bytes of the ordinates of a Point without points
 abbrev pub nowhere_bytes : Dimension → List ℕ
 nowhere_bytes d = row_bytes (nowhere ∷ nowhere ∷ (if d.z then nowhere ∷ [] else []) ++ (if d.m then nowhere ∷ [] else []))
 
@@ -69,3 +71,9 @@ pub record IsWkb (g : Shape) (bytes : List ℕ) : Type 0 where
   pub dimension : Dimension
   pub is : IsDimension g dimension
   pub spelled : bytes ≡ value dimension g
+
+-- the spelling of the shape has so many bytes
+pub record IsWkbSize (g : Shape) (size : ℕ) : Type 0 where
+  pub bytes : List ℕ
+  pub is : IsWkb g bytes
+  pub long : size ≡ length bytes

@@ -1,8 +1,8 @@
 // The dimension of the points of a shape: one for all of them, or none that can be written.
-ghost use Rattle.std.specs.Prelude.{◌≡◌, ◌≤◌, [], ◌∷◌, ◌++◌, List, MatchResult};
+ghost use Rattle.std.specs.Prelude.{◌≡◌, ◌≤◌, ◌*◌, [], ◌∷◌, ◌++◌, List, MatchResult};
 ghost use Rattle.fgb_schema.specs.Shapes.{Shape as Tree};
 ghost use Rattle.wkb_writer.specs.Commons.{IsCommon};
-ghost use Rattle.wkb_writer.specs.Dimensions.{IsDimension, dimension_of, flat, tree};
+ghost use Rattle.wkb_writer.specs.Dimensions.{IsDimension, coordinate_dimension, dimension_of, flat, tree};
 ghost use Rattle.wkb_writer.specs.Refusals.{IsNoWkb};
 
 use crate::shows::Shows;
@@ -21,7 +21,8 @@ pub struct Dimension {
 impl Dimension {
     /// How many bytes the ordinates of a point have.
     pub(crate) fn size(self) -> usize
-        ensures { result ≤ 32 }
+        ensures all { result ≡ 8 * coordinate_dimension self }
+        ensures few { result ≤ 32 }
     {
         8 * (2 + usize::from(self.z) + usize::from(self.m))
     }

@@ -109,3 +109,10 @@ fn views(rt: HostRuntime) -> Result<(), Fail> {
     assert_eq!(rt; bytes.as_slice(), POINT.as_slice());
     Ok(())
 }
+
+#[test]
+fn sizes(rt: HostRuntime) -> Result<(), Fail> {
+    let size = wkb_size(&read()?).map_err(|_| Fail::new("no size"))?;
+    assert_eq!(rt; size, 21);
+    Ok(())
+}

@@ -2,8 +2,7 @@ use Rattle.std.proofs.Common.{sym, ap, ◌∙◌}
 use Rattle.fgb_tool.specs.Asking.{request_of}
 use Rattle.fgb_tool.specs.Texts.{usage_text}
 use Rattle.fgb_tool.proofs.Telling.{tells_once}
-use Rattle.fgb_tool.proofs.Answering.{Queried}
-use Rattle.fgb_tool.proofs.Running.{does_query, Checked, does_check, Packed, does_pack}
+use Rattle.fgb_tool.proofs.Running.{Queried, does_query, Checked, does_check, Packed, does_pack}
 use Rattle.fgb_tool.proofs.top.run.Goals as goal
 
 pub returns-in-None-clause-usage_text : goal.returns-in-None-clause-usage_text
@@ -12,8 +11,8 @@ returns-in-None-clause-usage_text g c = λ is. rw c.as_bytes.ensures.value at (t
 
 pub returns-in-Some-Query-clause-does : goal.returns-in-Some-Query-clause-does
 returns-in-Some-Query-clause-does g c = λ request asks.
-    let left = c.query_file.ensures in let sought = c.in-Some-Query.sought in
-    let queried : Queried sought.bounds (g.S.RangeSource.seen c.args.file.now) (g.S.RangeSource.seen c.query_file.new.file) (g.W.Sink.shown c.args.out.now) (g.W.Sink.shown c.query_file.new.out) c.query_file.result = record {
+    let left = c.write_found-written.ensures in let sought = c.in-Some-Query.sought in
+    let queried : Queried sought.bounds sought.output (g.S.RangeSource.seen c.args.file.now) (g.S.RangeSource.seen c.write_found-written.new.file) (g.W.Sink.shown c.args.out.now) (g.W.Sink.shown c.write_found-written.new.out) c.write_found-written.result = record {
       headline = left.headline;
       headline_part = left.headline_part;
       done = left.done;
@@ -21,13 +20,17 @@ returns-in-Some-Query-clause-does g c = λ request asks.
       refused = left.refused;
       unrefused = left.unrefused;
       part = left.part;
+      large = left.large;
+      large_done = left.large_done;
+      large_file = left.large_file;
       declared = left.declared;
       search = left.search;
       front = left.front;
       failed = left.failed;
       sink_failed = left.sink_failed;
     } in
-    does_query _ _ _ _ _ _ _ c.query_file.result c.status_of.ensures sought.file.now sought.bounds request left.never_large queried (ap request_of (sym c.in-Some-Query.field-0-is) ∙ c.in-Some-Query.ensures.only request asks)
+    does_query _ _ _ _ _ _ _ c.map_err.result c.status_of.ensures sought.file.now sought.bounds sought.output request c.write_found-written.result c.map_err.ensures.cases queried
+    (ap request_of (sym c.in-Some-Query.field-0-is) ∙ c.in-Some-Query.ensures.only request asks)
 
 pub returns-in-Some-Check-clause-does : goal.returns-in-Some-Check-clause-does
 returns-in-Some-Check-clause-does g c = λ request asks.

@@ -1,0 +1,13 @@
+mod Rows
+mod Values
+mod Pairs
+mod Bytes
+mod Numbers
+mod Links
+mod ColumnTables
+mod ColumnLists
+mod Geometries
+mod Layables
+mod FeatureTables
+mod Buffers
+mod ReadFits

@@ -1,0 +1,6 @@
+//! Rows that the program is held to, on files with an index: a file of 179 points in a row, queried and checked, and the
+//! packing of three features. There is nothing in this crate but its tests.
+#![tactic(auto)]
+
+#[cfg(test)]
+mod tests;

@@ -1,0 +1,4 @@
+use super::*;
+
+mod indexed;
+mod packed;

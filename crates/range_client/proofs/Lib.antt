@@ -1,0 +1,10 @@
+pub mod Taking
+pub mod Ending
+pub mod Filling
+pub mod Lines
+pub mod Judging
+pub mod Telling
+pub mod Honest
+pub mod Exchanging
+pub mod Clients
+pub mod Reading

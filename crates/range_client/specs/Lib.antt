@@ -1,0 +1,9 @@
+pub mod Requests
+pub mod Demands
+pub mod Faults
+pub mod Judged
+pub mod Replies
+pub mod Steps
+pub mod Fronts
+pub mod Exchanges
+pub mod Client

@@ -1,0 +1,5 @@
+pub mod Core
+pub mod Pieces
+pub mod Paths
+pub mod Serving
+pub mod Sending

@@ -1,0 +1,4 @@
+pub mod Pages
+pub mod Writing
+pub mod Answering
+pub mod Spelled

@@ -1,0 +1,10 @@
+mod Passing
+mod Loops
+mod Types
+mod Positions
+mod Lists
+mod Rings
+mod Parts
+mod Bodies
+mod Refuted
+mod Fronts
