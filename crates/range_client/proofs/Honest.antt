@@ -35,7 +35,7 @@ true≢false : true ≡ false → ⊥
 true≢false e = false≢true (sym e)
 
 -- endless bytes are shorter than a head that begins as they do
-endless_short : (got head x y : List ℕ) → got ++ x ≡ head ++ y → IsEndless got → IsHead head → length got < length head
+pub endless_short : (got head x y : List ℕ) → got ++ x ≡ head ++ y → IsEndless got → IsHead head → length got < length head
 endless_short got head x y e endless is =
     ⊎_elim (λ (less : length got < length head). less) (λ (more : length head ≤ length got).
     absurd (true≢false (sym is.ended ∙ ap (λ t. ends_with nat_eq t empty_line) (sym (front_of head got y x (sym e) more)) ∙ endless (length head) more)))
@@ -46,7 +46,7 @@ no_shorter : (a b x y : List ℕ) → a ++ x ≡ b ++ y → IsHead a → IsHead 
 no_shorter a b x y e first second less =
     true≢false (sym first.ended ∙ ap (λ t. ends_with nat_eq t empty_line) (sym (front_of a b x y e (omega arith))) ∙ second.first (length a) less)
 
-one_head : (a b x y : List ℕ) → a ++ x ≡ b ++ y → IsHead a → IsHead b → (a ≡ b) × (x ≡ y)
+pub one_head : (a b x y : List ℕ) → a ++ x ≡ b ++ y → IsHead a → IsHead b → (a ≡ b) × (x ≡ y)
 one_head a b x y e first second =
     ⊎_elim (λ (less : length a < length b). absurd (no_shorter a b x y e first second less)) (λ (more : length b ≤ length a).
     ⊎_elim (λ (greater : length b < length a). absurd (no_shorter b a y x (sym e) second first greater)) (λ (same : length a ≤ length b).

@@ -8,3 +8,4 @@ pub mod Honest
 pub mod Exchanging
 pub mod Clients
 pub mod Reading
+pub mod OneKind

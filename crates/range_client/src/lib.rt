@@ -28,4 +28,4 @@ mod tests;
 
 pub use client::RangeClient;
 pub use faults::{BadKind, ConnectError, ConnectRefused};
-pub use laws::wanted_replies_are_not_bad;
+pub use laws::replies_are_judged_in_one_way;
