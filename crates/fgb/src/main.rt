@@ -1,36 +1,38 @@
 //! The program `fgb`, which answers the command of its words over a file and ends with the answer's status.
 //!
-//! Here are only the process's words, the opened file and the two outputs. What is answered, what is written
-//! where, and which status comes when is said by the contract of `run` of `fgb_tool`.
+//! Here are only the process's words, the opened file or connection, the listener, the reporters and the two outputs. What
+//! is answered, what is written where, and which status comes when is said by the contracts of `run` of `fgb_tool`, of
+//! `report_run` of `report_command` and of `serve_run` of `serve_command`.
 //!
 //! ```text
 //! fgb query map.fgb --box=0,0,10,10
+//! fgb serve map.fgb --port=8080 --connections=1
+//! fgb query http://127.0.0.1:8080/map.fgb --box=0,0,10,10
 //! ```
 #![tactic(auto)]
 
-use fgb_outside::{FileSource, PlainSource, RangeSource, Sink, StdSink};
-use fgb_tool::{Plan, Target, plan, run};
+ghost use Rattle.std.specs.Prelude.{◌≤◌, ◌^◌, length};
+
+mod opening;
+mod reporting;
+
+use byte_links::TcpAccept;
+use command_words::{Command, Plan, Stop, Target, plan, status_of};
+use fgb_outside::{PlainSource, RangeSource, StdSink};
+use fgb_tool::run;
+use opening::{connect, listen, open, read_whole};
+use reporting::{is_report, report_over};
+use serve_command::serve_run;
 use std::alloc::{AllocError, Global};
-use std::fs::File;
 use std::process::ExitCode;
 use std::{env, io};
-
-/// The status of a file that cannot be opened, and its text.
-const SOURCE: u8 = 3;
-
-const SOURCE_FAILED: &str = "source failed\n";
-
-/// The status of want of memory, and its text.
-const MEMORY: u8 = 5;
-
-const OUT_OF_MEMORY: &str = "out of memory\n";
 
 /// Answers the process's words. Words that are not UTF-8 are answered as no words are.
 fn main(rt: HostRuntime) -> ExitCode {
     let status = match read_words(&rt) {
         Ok(words) => answer_words(&rt, &words),
         Err(error) if error.kind() == io::ErrorKind::InvalidData => answer(&rt, &[]),
-        Err(_) => end(&rt, MEMORY, OUT_OF_MEMORY),
+        Err(_) => end(&rt, Stop::Memory),
     };
     ExitCode::from(status)
 }
@@ -45,7 +47,7 @@ fn read_words(rt: &HostRuntime) -> io::Result<Vec<String>> {
 fn answer_words(rt: &HostRuntime, words: &[String]) -> u8 {
     match texts(rt.alloc(), words) {
         Ok(texts) => answer(rt, &texts),
-        Err(_) => end(rt, MEMORY, OUT_OF_MEMORY),
+        Err(_) => end(rt, Stop::Memory),
     }
 }
 
@@ -54,42 +56,74 @@ fn texts<'a>(alloc: Global, words: &'a [String]) -> Result<Vec<&'a str>, AllocEr
     words.iter().map(|word| word.as_str()).collect(alloc)
 }
 
-/// Answers these words over the file that they name, or over no bytes where they name none.
+/// Answers these words over what they name, or over no bytes where they name nothing.
 fn answer(rt: &HostRuntime, words: &[&str]) -> u8 {
-    let Some(
-        Plan {
-            target: Target::File(name),
-            ..
-        },
-    ) = plan(words)
-    else {
-        return answer_over(rt, words, PlainSource::new(&[]));
-    };
-    match open(rt, name) {
-        Ok(file) => answer_over(rt, words, file),
-        Err(_) => end(rt, SOURCE, SOURCE_FAILED),
+    match plan(words) {
+        Some(
+            Plan {
+                command: Command::Serve,
+                target: Target::File(name),
+                port,
+            },
+        ) => serve(rt, words, name, port),
+        Some(
+            Plan {
+                target: Target::File(name),
+                ..
+            },
+        ) => answer_over(rt, words, open(rt, name)),
+        Some(
+            Plan {
+                target: Target::Http { port, path },
+                ..
+            },
+        ) => answer_over(rt, words, connect(rt, port, path)),
+        Some(
+            Plan {
+                target: Target::Nothing,
+                ..
+            },
+        )
+        | None => answer_over(rt, words, Ok(PlainSource::new(&[]))),
     }
-}
-
-/// Opens the file of this name, which is to be no folder.
-fn open(rt: &HostRuntime, name: &str) -> io::Result<FileSource> {
-    let file = File::open(rt, name)?;
-    if file.metadata()?.is_dir() {
-        return Err(io::Error::from(io::ErrorKind::IsADirectory));
-    }
-    FileSource::new(file)
 }
 
 /// Answers these words over a source, on the process's two outputs.
-fn answer_over<S: RangeSource>(rt: &HostRuntime, words: &[&str], mut file: S) -> u8 {
+fn answer_over<S: RangeSource>(rt: &HostRuntime, words: &[&str], source: Result<S, Stop>) -> u8 {
+    let mut file = match source {
+        Ok(file) => file,
+        Err(stop) => return end(rt, stop),
+    };
+    if is_report(words) {
+        return report_over(rt, words, &mut file);
+    }
     let mut out = StdSink::new(rt.stdout());
     let mut err = StdSink::new(rt.stderr());
     run(rt.alloc(), words, &mut file, &mut out, &mut err)
 }
 
-/// Writes why there is no answer, and gives the status to end with.
-fn end(rt: &HostRuntime, status: u8, text: &str) -> u8 {
+/// Serves the file of this name at this port, as these words ask.
+fn serve(rt: &HostRuntime, words: &[&str], name: &str, port: u16) -> u8 {
+    match read_whole(rt, name) {
+        Ok(image) => match listen(rt, port) {
+            Ok(listener) => serve_over(rt, words, &image, listener),
+            Err(stop) => end(rt, stop),
+        },
+        Err(stop) => end(rt, stop),
+    }
+}
+
+/// Serves these bytes over the connections of a listener, on the process's two outputs.
+fn serve_over(rt: &HostRuntime, words: &[&str], image: &[u8], mut listener: TcpAccept) -> u8
+    requires { length image.now ≤ 2 ^ 48 }
+{
+    let mut out = StdSink::new(rt.stdout());
     let mut err = StdSink::new(rt.stderr());
-    let _ = err.write(text.as_bytes());
-    status
+    serve_run(rt.alloc(), words, image, &mut listener, &mut out, &mut err)
+}
+
+/// Writes why there is no answer, and gives the status to end with.
+fn end(rt: &HostRuntime, stop: Stop) -> u8 {
+    let mut err = StdSink::new(rt.stderr());
+    status_of(Err(stop), &mut err)
 }

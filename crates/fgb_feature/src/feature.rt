@@ -109,6 +109,13 @@ impl<'a> FeatureView<'a> {
         self.properties.columns()
     }
 
+    /// Its own columns, which hold for its properties where there are some.
+    pub fn own_columns(&self) -> Columns<'a>
+        ensures { columns_shown result ≡ (feature_shown self.now).columns }
+    {
+        self.columns
+    }
+
     /// Its own box: that of all its points, or the empty box where it has none.
     pub fn bounds(&self) -> Bounds
         ensures { result ≡ own_box (feature_shown self.now) }

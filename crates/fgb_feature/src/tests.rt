@@ -159,6 +159,7 @@ fn bare(rt: HostRuntime) -> Result<(), Fail> {
     assert!(rt; feature.geometry().is_none());
     assert_eq!(rt; feature.properties().next(), None);
     assert_eq!(rt; feature.columns().len(), 2);
+    assert_eq!(rt; feature.own_columns().len(), 0);
     Ok(())
 }
 
@@ -247,6 +248,7 @@ fn every_type(rt: HostRuntime) -> Result<(), Fail> {
     assert!(rt; feature.geometry().is_none());
     assert_eq!(rt; feature.bounds(), Bounds::empty());
     assert_eq!(rt; feature.columns().len(), 15);
+    assert_eq!(rt; feature.own_columns().len(), 15);
     let want = [
         (0, Value::Byte(-5)),
         (1, Value::UByte(200)),

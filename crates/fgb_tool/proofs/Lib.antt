@@ -1,6 +1,3 @@
-mod Wording
-mod Telling
 mod Checking
 mod Packing
-mod Statuses
 mod Running

@@ -21,14 +21,16 @@ use Rattle.text_query.specs.declared.output.Output.{Output}
 use Rattle.text_query.specs.declared.output.Output.TheVariants.{Fgb}
 use Rattle.packed_file.specs.Packing.{IsTooLarge}
 use Rattle.fgb_pack.specs.Packs.{PacksPart}
-use Rattle.fgb_tool.specs.declared.stop.Stop.{Stop}
-use Rattle.fgb_tool.specs.declared.stop.Stop.TheVariants.{Refused, SourceFailed, SinkFailed, Memory, TooLarge}
-use Rattle.fgb_tool.specs.Causes.{IsTextCause, IfRefused}
+use Rattle.command_words.specs.declared.stop.Stop.{Stop}
+use Rattle.command_words.specs.declared.stop.Stop.TheVariants.{Refused, SourceFailed, SinkFailed, Memory, TooLarge}
+use Rattle.command_words.specs.Causes.{IsTextCause}
+use Rattle.command_words.specs.Statuses.{IsStatus, IfRefused}
+use Rattle.command_words.specs.Words.{Input}
+use Rattle.command_words.specs.Requests.{Request, query, check, pack, report, serve}
+use Rattle.command_words.proofs.Meanings.{statuses, statuses_of_small, not_usage, at_done, at_refused, at_source, at_sink, at_memory, at_large, unfailed}
 use Rattle.fgb_tool.specs.Texts.{accepted_text}
-use Rattle.fgb_tool.specs.Words.{Request, query, check, pack}
-use Rattle.fgb_tool.specs.Runs.{IsStatus, Runs, Accepts, AcceptsPart, Checks, WritesPacking, Repacks, Does}
+use Rattle.fgb_tool.specs.Runs.{Runs, Accepts, AcceptsPart, Checks, WritesPacking, Repacks, Does}
 use Rattle.fgb_tool.proofs.Checking.{numbered_valid}
-use Rattle.fgb_tool.proofs.Statuses.{statuses, statuses_of_small, not_usage, at_done, at_refused, at_source, at_sink, at_memory, at_large, unfailed}
 
 -- ## What is left of four statuses
 
@@ -160,7 +162,7 @@ module _ {T : Type 0} (s s' : Source) (o o' e e' : Sink) (status : ℕ) (r : Res
   }
 
   -- the promise at what the words ask for
-  pub does_query : (file : List ℕ) (box : Bounds) (output : Output) (request : Request) (asked : Result T TextError) → MatchResult asked (λ done. r ≡ Ok done) (λ error. IsErrAnd r (IsTextCause error))
+  pub does_query : (file : Input) (box : Bounds) (output : Output) (request : Request) (asked : Result T TextError) → MatchResult asked (λ done. r ≡ Ok done) (λ error. IsErrAnd r (IsTextCause error))
       → Queried box output s s' o o' asked → query file box output ≡ request → (status ≢ 2) × Does request s s' o o' e e' status
   does_query file box output request asked made q same = (
     not_usage e e' status r is,
@@ -211,7 +213,7 @@ module _ {T : Type 0} (s s' : Source) (o o' e e' : Sink) (status : ℕ) (r : Res
             (unfailed e e' status r is (λ failed. source (q.failed failed)) (λ failed. sink (q.sink_failed failed)));
       }
 
-  pub does_check : (file : List ℕ) (request : Request) → Checked s s' o o' r → check file ≡ request → (status ≢ 2) × Does request s s' o o' e e' status
+  pub does_check : (file : Input) (request : Request) → Checked s s' o o' r → check file ≡ request → (status ≢ 2) × Does request s s' o o' e e' status
   does_check file request q same = (not_usage e e' status r is, subst (λ asked. Does asked s s' o o' e e' status) same (checks q))
 
 -- ## A packing
@@ -268,5 +270,5 @@ module _ {T : Type 0} (s s' : Source) (o o' e e' : Sink) (status : ℕ) (r : Res
             (unfailed_at source sink);
       }
 
-  pub does_pack : (file : List ℕ) (node_size : ℕ) (request : Request) → Packed node_size s s' o o' r → pack file node_size ≡ request → (status ≢ 2) × Does request s s' o o' e e' status
+  pub does_pack : (file : Input) (node_size : ℕ) (request : Request) → Packed node_size s s' o o' r → pack file node_size ≡ request → (status ≢ 2) × Does request s s' o o' e e' status
   does_pack file node_size request q same = (not_usage e e' status r is, subst (λ asked. Does asked s s' o o' e e' status) same (repacks node_size q))

@@ -1,5 +1,3 @@
 pub mod Causes
-pub mod Words
-pub mod Asking
 pub mod Texts
 pub mod Runs

@@ -1,5 +1,5 @@
 -- What a query, a check, a packing and a run promise.
-use Rattle.std.specs.Prelude.{◌≡◌, ◌≢◌, ◌⊎◌, ℕ, List, [], Option, Some, Result, Ok, Err}
+use Rattle.std.specs.Prelude.{◌≡◌, ◌≢◌, ◌⊎◌, ℕ, List, [], Option, Some}
 use Rattle.order_keys.specs.declared.bounds.Bounds.{Bounds}
 use Rattle.flat_layout.specs.declared.Broken.{Broken}
 use Rattle.fgb_outside.specs.Source.{Source, IfTold, Rose}
@@ -16,19 +16,9 @@ use Rattle.text_query.specs.declared.output.Output.{Output}
 use Rattle.text_query.specs.declared.output.Output.TheVariants.{Fgb}
 use Rattle.packed_file.specs.Packing.{IsPacking, IsTooLarge}
 use Rattle.fgb_pack.specs.Packs.{PacksPart}
-use Rattle.fgb_tool.specs.declared.stop.Stop.{Stop}
-use Rattle.fgb_tool.specs.declared.stop.Stop.TheVariants.{Refused, SourceFailed, SinkFailed, Memory, TooLarge}
-use Rattle.fgb_tool.specs.Texts.{Tells, accepted_text, refusal_text, source_text, sink_text, memory_text, too_large_text}
-use Rattle.fgb_tool.specs.Words.{Request, query, check, pack}
-
--- the status of a result, and what it leaves on the error sink
-abbrev pub IsStatus : {T : Type 0} → Result T Stop → Sink → Sink → ℕ → Type 0
-IsStatus (Ok done) e e' status = (status ≡ 0) × (e' ≡ e)
-IsStatus (Err (Refused broken)) e e' status = (status ≡ 1) × Tells e e' (refusal_text broken)
-IsStatus (Err SourceFailed) e e' status = (status ≡ 3) × Tells e e' source_text
-IsStatus (Err SinkFailed) e e' status = (status ≡ 4) × Tells e e' sink_text
-IsStatus (Err Memory) e e' status = (status ≡ 5) × Tells e e' memory_text
-IsStatus (Err TooLarge) e e' status = (status ≡ 6) × Tells e e' too_large_text
+use Rattle.command_words.specs.Texts.{Tells, refusal_text, source_text, sink_text, memory_text, too_large_text}
+use Rattle.command_words.specs.Requests.{Request, query, check, pack, report, serve}
+use Rattle.fgb_tool.specs.Texts.{accepted_text}
 
 -- what a query of this box that writes such a text does, by the status that it ends with
 pub record Runs (box : Bounds) (output : Output) (s s' : Source) (o o' e e' : Sink) (status : ℕ) : Type 0 where
@@ -143,6 +133,8 @@ pub record Repacks (node_size : ℕ) (s s' : Source) (o o' e e' : Sink) (status 
 
 -- what was asked for is done
 abbrev pub Does : Request → Source → Source → Sink → Sink → Sink → Sink → ℕ → Type 0
-Does (query file box output) s s' o o' e e' status = Runs box output s s' o o' e e' status
-Does (check file) s s' o o' e e' status = Checks s s' o o' e e' status
-Does (pack file node_size) s s' o o' e e' status = Repacks node_size s s' o o' e e' status
+Does (query input box output) s s' o o' e e' status = Runs box output s s' o o' e e' status
+Does (check input) s s' o o' e e' status = Checks s s' o o' e e' status
+Does (pack input node_size) s s' o o' e e' status = Repacks node_size s s' o o' e e' status
+Does (report input box) s s' o o' e e' status = ⊥
+Does (serve name port connections) s s' o o' e e' status = ⊥

@@ -7,12 +7,13 @@ ghost use Rattle.fgb_file.specs.File.{BreaksFirst, IsDeclared, IsOpen, IsUnindex
 ghost use Rattle.read_stop.specs.Asks.{AsksOnly};
 ghost use Rattle.fgb_check.specs.Verdicts.{IsFileOf};
 ghost use Rattle.fgb_reader.specs.Requests.{AsksAll, AsksFront};
-ghost use Rattle.fgb_tool.specs.Causes.{IfRefused};
+ghost use Rattle.command_words.specs.Statuses.{IfRefused};
 ghost use Rattle.fgb_tool.specs.Runs.{Accepts, AcceptsPart};
 ghost use Rattle.fgb_tool.specs.Texts.{accepted_text};
 
-use crate::stop::Stop;
+use crate::stop::check_stop;
 use crate::texts::write_accepted;
+use command_words::Stop;
 use fgb_check::{Verdict, check};
 use fgb_outside::{RangeSource, Sink};
 use std::alloc::Global;
@@ -39,7 +40,11 @@ pub(crate) fn check_file<S: RangeSource, W: Sink>(
     ensures unread { IsErrOf result Stop.SourceFailed → W.shown out.new ≡ W.shown out.old }
     ensures never_large { result ≢ Err Stop.TooLarge }
 {
-    match check(alloc, file)? {
+    let verdict = match check(alloc, file) {
+        Ok(verdict) => verdict,
+        Err(error) => return Err(check_stop(error)),
+    };
+    match verdict {
         Verdict::Accepted { features, nodes } => write_accepted(out, features, nodes)?,
         Verdict::Refused(broken) => return Err(Stop::Refused(broken)),
     }

@@ -1,4 +1,5 @@
-//! The calls that the program makes: [`run`] answers a command, and [`plan`] says what a command's words ask.
+//! [`run`] answers the commands that read one file and write on the output: `query`, `check` and `pack`. [`plan`] of
+//! `command_words` says what a command's words ask.
 //!
 //! `run` reads the words. It writes what a query of a box finds as one of three texts (`write_found` of `text_query`), or
 //! says that the file breaks no rule, or writes the packing of the file. A query asks for no needless byte, and for each
@@ -8,13 +9,10 @@
 #![tactic(auto)]
 
 mod check;
-mod command;
 mod pack;
 mod stop;
 mod texts;
 mod top;
-mod words;
 
-pub use command::{Command, Plan, Target};
+pub use command_words::{Command, Plan, Target, plan};
 pub use top::run;
-pub use words::plan;

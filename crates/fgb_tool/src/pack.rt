@@ -5,10 +5,11 @@ ghost use Rattle.fgb_outside.specs.Source.{IfTold, Rose};
 ghost use Rattle.fgb_file.specs.File.{BreaksFirst, IsFile, IsValid, header_in};
 ghost use Rattle.packed_file.specs.Packing.{IsTooLarge};
 ghost use Rattle.fgb_pack.specs.Packs.{PacksPart};
-ghost use Rattle.fgb_tool.specs.Causes.{IfRefused};
+ghost use Rattle.command_words.specs.Statuses.{IfRefused};
 ghost use Rattle.fgb_tool.specs.Runs.{WritesPacking};
 
-use crate::stop::Stop;
+use crate::stop::pack_stop;
+use command_words::Stop;
 use fgb_outside::{RangeSource, Sink};
 use fgb_pack::pack;
 use std::alloc::Global;
@@ -35,6 +36,8 @@ pub(crate) fn pack_file<S: RangeSource, W: Sink>(
     ensures failed { IsErrOf result Stop.SourceFailed → Rose (S.seen file.old).faults (S.seen file.new).faults }
     ensures sink_failed { IsErrOf result Stop.SinkFailed → Rose (W.shown out.old).faults (W.shown out.new).faults }
 {
-    pack(alloc, file, node_size, out)?;
-    Ok(())
+    match pack(alloc, file, node_size, out) {
+        Ok(_) => Ok(()),
+        Err(error) => Err(pack_stop(error)),
+    }
 }

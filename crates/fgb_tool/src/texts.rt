@@ -1,34 +1,11 @@
-// The texts on the error sink.
+// The line of a check.
 ghost use Rattle.std.specs.Prelude.{codes, IsErrOf};
 ghost use Rattle.fgb_outside.specs.Source.{Rose};
-ghost use Rattle.fgb_tool.specs.Texts.{Writing, accepted_text, refusal_text};
+ghost use Rattle.command_words.specs.Texts.{Writing};
+ghost use Rattle.fgb_tool.specs.Texts.{accepted_text};
 
 use fgb_outside::{Sink, SinkError};
-use flat_views::Broken;
 use itoa::Buffer;
-
-pub(crate) const USAGE: &str = "usage: fgb COMMAND FILE --name=value\n";
-
-pub(crate) const SOURCE_FAILED: &str = "source failed\n";
-
-pub(crate) const SINK_FAILED: &str = "sink failed\n";
-
-pub(crate) const OUT_OF_MEMORY: &str = "out of memory\n";
-
-pub(crate) const TOO_LARGE: &str = "too large\n";
-
-/// Writes `refused: NAME at PLACE` and a line feed, piece by piece, so that it takes no memory.
-pub(crate) fn write_refusal<E: Sink>(err: &mut E, broken: Broken) -> Result<(), SinkError>
-    ensures { Writing (E.shown err.old) (E.shown err.new) (refusal_text broken) result }
-{
-    err.write(b"refused: ")?;
-    err.write(broken.rule.name().as_bytes())?;
-    err.write(b" at ")?;
-    let mut buffer = Buffer::new();
-    err.write(buffer.format(broken.place).as_bytes())?;
-    err.write(b"\n")?;
-    Ok(())
-}
 
 /// Writes `accepted N features M nodes` and a line feed, piece by piece, so that it takes no memory.
 pub(crate) fn write_accepted<W: Sink>(

@@ -43,7 +43,7 @@ const UNSAID: i32 = -1;
 
 /// A column of the features' properties (FlatGeobuf, header.fbs, table Column).
 #[derive(Drop)]
-pub(crate) struct ColumnInfo {
+pub struct ColumnInfo {
     name: String,
     kind: u8,
     title: Option<String>,
@@ -129,7 +129,7 @@ impl ColumnInfo {
     }
 
     /// The type of its values.
-    pub(crate) fn kind(&self) -> u8
+    pub fn kind(&self) -> u8
         ensures { result ≡ self.now.kind }
     {
         self.kind
@@ -157,7 +157,7 @@ impl ColumnInfo {
 }
 
 /// Copies of columns that were read.
-pub(crate) fn columns_of(alloc: Global, view: Columns) -> Result<Vec<ColumnInfo>, AllocError>
+pub fn columns_of(alloc: Global, view: Columns) -> Result<Vec<ColumnInfo>, AllocError>
     ensures ok { IfOk result (λ columns. columns.items ≡ columns_shown view.entry) }
     ensures sound { IfOk result (λ columns. AllByRecursion IsColumn columns.items) }
 {
@@ -183,8 +183,8 @@ pub(crate) fn columns_again(
     Ok(copies)
 }
 
-/// Puts the columns as a vector of tables, if there are any.
-pub(crate) fn put_columns(
+/// Gives the field of this id the columns, as a vector of tables, if there are any. Never refuses TooLarge.
+pub fn put_columns(
     table: &mut FlatTable,
     id: u16,
     columns: &[ColumnInfo],

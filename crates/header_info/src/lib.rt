@@ -2,7 +2,8 @@
 //!
 //! A [`HeaderInfo`] shows the record `Header` of `fgb_schema`, whose invariant is `IsRecord` of `header_tables`.
 //! [`HeaderInfo::plain`] makes one with every field at its default, [`HeaderInfo::of`] copies a header that was read, and
-//! [`HeaderInfo::to_bytes`] gives the buffer, which breaks no rule and shows the same record.
+//! [`HeaderInfo::to_bytes`] gives the buffer, which breaks no rule and shows the same record. A [`ColumnInfo`] is a column
+//! of it; features may have columns of their own, which [`columns_of`] copies and [`put_columns`] lays.
 //!
 //! ```text
 //! let mut info = HeaderInfo::plain(alloc, 1);
@@ -21,4 +22,5 @@ mod puts;
 mod tests;
 mod texts;
 
+pub use column::{ColumnInfo, columns_of, put_columns};
 pub use info::HeaderInfo;

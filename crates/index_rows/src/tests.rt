@@ -2,3 +2,4 @@ use super::*;
 
 mod indexed;
 mod packed;
+mod reported;

@@ -1,8 +1,10 @@
 pub mod Chains
 pub mod Copied
 pub mod Fields
+pub mod LaidFields
 pub mod Parts
 pub mod Points
 pub mod Pushed
 pub mod Pushes
 pub mod ReadShapes
+pub mod Standing

@@ -15,6 +15,7 @@
 mod copies;
 mod lists;
 mod shape;
+mod tables;
 #[cfg(test)]
 mod tests;
 

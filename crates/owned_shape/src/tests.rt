@@ -3,6 +3,7 @@ ghost use Rattle.fgb_schema.specs.Shapes.{type_in};
 ghost use Rattle.owned_shape.specs.Records.{depth};
 
 use super::*;
+use flat_builder::FlatTable;
 use flat_views::{Buf, Meter};
 use geometry_view::{GeometryView, Kind, Ordinate};
 use order_keys::Coord;
@@ -132,5 +133,37 @@ fn copies(rt: HostRuntime) -> Result<(), Fail> {
     assert_eq!(rt; shape.rings(), 0);
     assert_eq!(rt; shape.parts(), 0);
     assert!(rt; shape.ordinates(Ordinate::Z).is_empty());
+    Ok(())
+}
+
+#[test]
+fn laid(rt: HostRuntime) -> Result<(), Fail> {
+    let mut point = Shape::new(rt.alloc(), Kind::Point);
+    point.push_points(&[N1, N2])?;
+    let mut feature = FlatTable::new(rt.alloc());
+    feature.put_table(0, point.to_table(rt.alloc())?)?;
+    let buffer = feature.finish(rt.alloc(), 84)?;
+    assert_eq!(rt; buffer.as_slice(), POINT.as_slice());
+    Ok(())
+}
+
+/// How many bytes the geometry takes, laid as a root.
+fn len(shape: &Shape, alloc: Global) -> Result<usize, Fail> {
+    Ok(shape.to_table(alloc)?.finish(alloc, 1000)?.len())
+}
+
+#[test]
+fn ends_and_parts_are_laid(rt: HostRuntime) -> Result<(), Fail> {
+    let mut polygon = Shape::new(rt.alloc(), Kind::Polygon);
+    polygon.push_points(&[N0, N0, N1, N1])?;
+    // the root and the vtable, the table at 24, the points at 40
+    assert_eq!(rt; len(&polygon, rt.alloc())?, 76);
+    polygon.push_points(&[])?;
+    // with the ends of two rings at 40, the points at 56
+    assert_eq!(rt; len(&polygon, rt.alloc())?, 92);
+    let mut polygons = Shape::new(rt.alloc(), Kind::MultiPolygon);
+    polygons.push_part(polygon)?;
+    // the vector of parts at 36; the table of the part at 64, its ends at 80, its points at 96
+    assert_eq!(rt; len(&polygons, rt.alloc())?, 132);
     Ok(())
 }

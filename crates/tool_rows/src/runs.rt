@@ -1,5 +1,5 @@
 // Runs of the tool over bytes in memory.
-use fgb_outside::{MemorySink, MemorySource};
+use fgb_outside::{MemorySink, RangeSource};
 use fgb_tool::run;
 use std::alloc::{AllocError, Global};
 use std::str;
@@ -43,10 +43,10 @@ impl Ran {
 }
 
 /// Runs these words over a source, with an output whose calls of these numbers fail.
-pub fn run_over(
+pub fn run_over<S: RangeSource>(
     alloc: Global,
     words: &[&str],
-    file: &mut MemorySource,
+    file: &mut S,
     fail: &[u64],
 ) -> Result<Ran, AllocError> {
     let mut out = MemorySink::new(alloc, fail)?;

@@ -1,16 +1,16 @@
-// Why a shape is not written.
+// Why a shape is not written or read.
 ghost use Rattle.std.specs.Prelude.{◌≡◌};
 ghost use Rattle.wkb_writer.specs.declared.error.WkbError.TheVariants.{Memory, Refused};
 
 use flat_views::Broken;
 use std::alloc::AllocError;
 
-/// Why a shape is not written as WKB.
+/// Why a shape is not written as WKB, or bytes are not read as one.
 #[derive(Clone, Copy, Debug, PartialEq, Eq)]
 pub enum WkbError {
     /// There was no memory.
     Memory,
-    /// No WKB holds the shape: NoWkb at 0.
+    /// Writing: no WKB holds the shape (NoWkb at 0). Reading: the rule that the bytes break, and the place.
     Refused(Broken),
 }
 

@@ -1,6 +1,7 @@
 // What the calls answer on a file with an index: 179 points in a row, under 12 nodes of up to 16 leaves and the root.
 use super::*;
 use fgb_outside::MemorySource;
+use loop_link::connect_loop;
 use node_items::NodeItem;
 use order_keys::{Bounds, Coord};
 use std::alloc::{AllocError, Global};
@@ -28,7 +29,7 @@ fn node(first: u8, last: u8, offset: u64) -> Result<[u8; 40], Fail> {
 }
 
 /// The points (0, 0) to (178, 0) behind their index, which begins at 60. They begin at 7,740.
-fn row(alloc: Global) -> Result<Vec<u8>, Fail> {
+pub(super) fn row(alloc: Global) -> Result<Vec<u8>, Fail> {
     let mut file = Vec::from_slice(alloc, &INDEXED)?;
     file.extend_from_slice(&node(0, 178, 1)?)?;
     for first in (0..179u8).step_by(16) {
@@ -45,7 +46,10 @@ fn row(alloc: Global) -> Result<Vec<u8>, Fail> {
 }
 
 /// The ranges from a first position to an end that the pairs asked for, if they rise and no position is asked for twice.
-fn ranges_of(alloc: Global, asked: &[(u64, u64)]) -> Result<Option<Vec<(u64, u64)>>, AllocError> {
+pub(super) fn ranges_of(
+    alloc: Global,
+    asked: &[(u64, u64)],
+) -> Result<Option<Vec<(u64, u64)>>, AllocError> {
     let mut ranges = Vec::new(alloc);
     let mut first = 0u64;
     let mut end = 0u64;
@@ -107,7 +111,7 @@ const FOUR: &str = "30 2640 84 403e000000000000 0000000000000000 403e00000000000
 
 /// The start, the header and the root; the nodes below it; the leaves below the second and the third of these; and the
 /// four points.
-const NEEDED: [(u64, u64); 3] = [(0, 580), (1220, 2500), (10_380, 10_732)];
+pub(super) const NEEDED: [(u64, u64); 3] = [(0, 580), (1220, 2500), (10_380, 10_732)];
 
 #[test]
 fn a_row_is_queried(rt: HostRuntime) -> Result<(), Fail> {
@@ -123,6 +127,20 @@ fn a_row_is_queried(rt: HostRuntime) -> Result<(), Fail> {
     assert_eq!(rt; (ran.status, ran.out()?.lines().count()), (0, 179));
     let asked = ranges_of(alloc, source.asked())?;
     assert_eq!(rt; asked.as_deref(), Some([(0, 23_492)].as_slice()));
+    Ok(())
+}
+
+#[test]
+fn a_served_row_is_queried(rt: HostRuntime) -> Result<(), Fail> {
+    let alloc = rt.alloc();
+    let file = row(alloc)?;
+    assert!(rt; file.len() == 23_492);
+    let mut client = connect_loop(alloc, &file, 1)?;
+    let words = ["query", "http://127.0.0.1:8080/map.fgb", "--box=30,-1,33,1"];
+    let ran = run_over(alloc, &words, &mut client, &[])?;
+    assert_eq!(rt; (ran.status, ran.out()?, ran.err()?), (0, FOUR, ""));
+    let asked = ranges_of(alloc, client.asked())?;
+    assert_eq!(rt; asked.as_deref(), Some(NEEDED.as_slice()));
     Ok(())
 }
 

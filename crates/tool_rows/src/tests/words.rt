@@ -36,7 +36,7 @@ fn other_words_are_refused(rt: HostRuntime) -> Result<(), Fail> {
     is_usage(&rt, &["query", "three.fgb", area, "--out=wkb", "--out=wkb"])?;
     is_usage(&rt, &["query", "three.fgb", "--out=wkb"])?;
     is_usage(&rt, &["check", "three.fgb", "--out=lines"])?;
-    for word in ["", "-three.fgb", "http://127.0.0.1:80/three.fgb", area] {
+    for word in ["", "-three.fgb", "http://127.0.0.1:0/three.fgb", area] {
         is_usage(&rt, &["query", word, area])?;
     }
     is_usage(&rt, &["query", "three.fgb", "three.fgb"])?;
@@ -51,6 +51,18 @@ fn other_words_are_refused(rt: HostRuntime) -> Result<(), Fail> {
         is_usage(&rt, &["pack", "three.fgb", &word])?;
     }
     is_usage(&rt, &["pack", "--node=16", "--node=16"])
+}
+
+#[test]
+fn other_calls_are_refused(rt: HostRuntime) -> Result<(), Fail> {
+    let alloc = rt.alloc();
+    let mut file = MemorySource::new(alloc, &EMPTY, &[])?;
+    let words = ["report", "three.fgb", "--box=0,0,10,10"];
+    let ran = run_over(alloc, &words, &mut file, &[])?;
+    assert_eq!(rt; (ran.status, ran.out()?, ran.err()?), (2, "", USAGE));
+    assert!(rt; file.asked().is_empty());
+    assert_eq!(rt; plan(&words), planned(Command::Report));
+    Ok(())
 }
 
 /// What words ask for that do this with the file of the three points.

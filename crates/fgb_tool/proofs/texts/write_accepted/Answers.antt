@@ -1,7 +1,7 @@
 use Rattle.std.proofs.Common.{ℕ, List, [], ◌++◌, codes, decimal, refl, ◌∙◌}
 use Rattle.std.proofs.lemmas.List.{append_assoc}
 use Rattle.fgb_tool.specs.Texts.{accepted_text}
-use Rattle.fgb_tool.proofs.Telling.{wrote_nothing, wrote_next, failed_next, wrote_all}
+use Rattle.command_words.proofs.Telling.{wrote_nothing, wrote_next, failed_next, wrote_all}
 use Rattle.fgb_tool.proofs.texts.write_accepted.Goals as goal
 
 abbrev first : List ℕ

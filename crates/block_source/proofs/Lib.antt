@@ -1,0 +1,4 @@
+pub mod Covering
+pub mod Keeping
+pub mod Reading
+pub mod Visiting

@@ -1,0 +1,5 @@
+mod Wording
+mod Hosts
+mod Finding
+pub mod Telling
+pub mod Meanings

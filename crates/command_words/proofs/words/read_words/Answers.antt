@@ -1,0 +1,53 @@
+use Rattle.std.proofs.Common.{arith}
+use Rattle.command_words.specs.declared.command.Command.TheVariants.{Query, Check, Pack, Report, Serve}
+use Rattle.command_words.proofs.Wording.{headed, query_asked, check_asked, pack_asked, report_asked, serve_asked}
+use Rattle.command_words.proofs.words.read_words.Goals as goal
+
+pub returns-in_err-read_query-in-Query-clause-only : goal.returns-in_err-read_query-in-Query-clause-only
+returns-in_err-read_query-in-Query-clause-only c = λ request asks.
+    let asked = query_asked _ request (headed c.args.words.now _ (omega arith) _ Query request c.in_ok-named.ensures.some c.in-Query.is asks) in
+    absurd (c.in_err-read_query-in-Query.ensures.only asked.0 asked.1 asked.2 asked.4)
+
+pub returns-in_ok-read_query-in-Query-clause-only : goal.returns-in_ok-read_query-in-Query-clause-only
+returns-in_ok-read_query-in-Query-clause-only c = λ request asks.
+    let asked = query_asked _ request (headed c.args.words.now _ (omega arith) _ Query request c.in_ok-named.ensures.some c.in-Query.is asks) in
+    let same = c.in_ok-read_query-in-Query.ensures.only asked.0 asked.1 asked.2 asked.4 in
+    cc
+
+pub returns-in_err-read_check-in-Check-clause-only : goal.returns-in_err-read_check-in-Check-clause-only
+returns-in_err-read_check-in-Check-clause-only c = λ request asks.
+    let asked = check_asked _ request (headed c.args.words.now _ (omega arith) _ Check request c.in_ok-named.ensures.some c.in-Check.is asks) in
+    absurd (c.in_err-read_check-in-Check.ensures.only asked.0 asked.2)
+
+pub returns-in_ok-read_check-in-Check-clause-only : goal.returns-in_ok-read_check-in-Check-clause-only
+returns-in_ok-read_check-in-Check-clause-only c = λ request asks.
+    let asked = check_asked _ request (headed c.args.words.now _ (omega arith) _ Check request c.in_ok-named.ensures.some c.in-Check.is asks) in
+    let same = c.in_ok-read_check-in-Check.ensures.only asked.0 asked.2 in
+    cc
+
+pub returns-in_err-read_pack-in-Pack-clause-only : goal.returns-in_err-read_pack-in-Pack-clause-only
+returns-in_err-read_pack-in-Pack-clause-only c = λ request asks.
+    let asked = pack_asked _ request (headed c.args.words.now _ (omega arith) _ Pack request c.in_ok-named.ensures.some c.in-Pack.is asks) in
+    absurd (c.in_err-read_pack-in-Pack.ensures.only asked.0 asked.1 asked.3)
+
+pub returns-in_ok-read_pack-in-Pack-clause-only : goal.returns-in_ok-read_pack-in-Pack-clause-only
+returns-in_ok-read_pack-in-Pack-clause-only c = λ request asks.
+    let asked = pack_asked _ request (headed c.args.words.now _ (omega arith) _ Pack request c.in_ok-named.ensures.some c.in-Pack.is asks) in
+    let same = c.in_ok-read_pack-in-Pack.ensures.only asked.0 asked.1 asked.3 in
+    cc
+
+pub returns-in_err-read_report-in-Report-clause-only : goal.returns-in_err-read_report-in-Report-clause-only
+returns-in_err-read_report-in-Report-clause-only c = λ request asks.
+    let asked = report_asked _ request (headed c.args.words.now _ (omega arith) _ Report request c.in_ok-named.ensures.some c.in-Report.is asks) in
+    absurd (c.in_err-read_report-in-Report.ensures.only asked.0 asked.1 asked.3)
+
+pub returns-in_ok-read_report-in-Report-clause-only : goal.returns-in_ok-read_report-in-Report-clause-only
+returns-in_ok-read_report-in-Report-clause-only c = λ request asks.
+    let asked = report_asked _ request (headed c.args.words.now _ (omega arith) _ Report request c.in_ok-named.ensures.some c.in-Report.is asks) in
+    let same = c.in_ok-read_report-in-Report.ensures.only asked.0 asked.1 asked.3 in
+    cc
+
+pub returns-in_err-read_serve-in-Serve-clause-only : goal.returns-in_err-read_serve-in-Serve-clause-only
+returns-in_err-read_serve-in-Serve-clause-only c = λ request asks.
+    let asked = serve_asked _ request (headed c.args.words.now _ (omega arith) _ Serve request c.in_ok-named.ensures.some c.in-Serve.is asks) in
+    absurd (c.in_err-read_serve-in-Serve.ensures.only asked.0 asked.1 asked.2 asked.4)

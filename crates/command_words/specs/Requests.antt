@@ -1,0 +1,145 @@
+-- What the words of a command ask for.
+use Rattle.std.specs.Prelude.{◌≡◌, ◌≤◌, ℕ, IsTrue, ⊤, List, [], ◌∷◌, codes, Option, Some, None}
+use Rattle.std.specs.List.{list_all}
+use Rattle.range_client.specs.Requests.{IsPath}
+use Rattle.order_keys.specs.declared.bounds.Bounds.{Bounds}
+use Rattle.text_query.specs.declared.output.Output.{Output}
+use Rattle.command_words.specs.declared.command.Command.{Command}
+use Rattle.command_words.specs.declared.command.Command.TheVariants as a
+use Rattle.command_words.specs.declared.command.Target.{Target}
+use Rattle.command_words.specs.declared.command.Target.TheVariants.{Nothing, File, Http}
+use Rattle.command_words.specs.Words.{Input, file_named, file_served, is_known, values, GivesFile, GivesNumber, GivesBox, IsOutput}
+
+-- what can be asked: for the features of this file that meet this box, in this form; whether this file breaks a rule; for
+-- the packing of this file with nodes of so many children; for reports on the features of this file that meet this box;
+-- or to serve the file of this name at this port for so many connections
+pub data Request : Type 0 where
+  query : Input → Bounds → Output → Request
+  check : Input → Request
+  pack : Input → ℕ → Request
+  report : Input → Bounds → Request
+  serve : List ℕ → ℕ → ℕ → Request
+
+-- the command of a request
+abbrev pub command_of : Request → Command
+command_of (query input bounds output) = a.Query
+command_of (check input) = a.Check
+command_of (pack input node_size) = a.Pack
+command_of (report input bounds) = a.Report
+command_of (serve name port connections) = a.Serve
+
+-- the word of a command
+abbrev pub command_name : Command → List ℕ
+command_name a.Query = codes "query"
+command_name a.Check = codes "check"
+command_name a.Pack = codes "pack"
+command_name a.Convert = codes "convert"
+command_name a.Make = codes "make"
+command_name a.Report = codes "report"
+command_name a.Serve = codes "serve"
+
+-- each of the words behind the command can stand there
+abbrev pub AreKnown : List (List ℕ) → List (List ℕ) → Type 0
+AreKnown names words = IsTrue (list_all (is_known names) words)
+
+-- `FILE --box=BOX`, with `--out=lines`, `--out=fgb`, `--out=wkb` or none of them
+pub record AsksQuery (words : List (List ℕ)) (input : Input) (bounds : Bounds) (output : Output) : Type 0 where
+  pub known : AreKnown (codes "--box=" ∷ codes "--out=" ∷ []) words
+  pub file : GivesFile words input
+  pub box : GivesBox words bounds
+  pub chosen : IsOutput (values (codes "--out=") words) output
+
+-- `FILE`
+pub record AsksCheck (words : List (List ℕ)) (input : Input) : Type 0 where
+  pub known : AreKnown [] words
+  pub file : GivesFile words input
+
+-- `FILE --node=N`, with a number from 2 to 65535
+pub record AsksPack (words : List (List ℕ)) (input : Input) (node_size : ℕ) : Type 0 where
+  pub known : AreKnown (codes "--node=" ∷ []) words
+  pub file : GivesFile words input
+  pub children : GivesNumber words (codes "--node=") 2 65535 node_size
+
+-- `FILE --box=BOX`
+pub record AsksReport (words : List (List ℕ)) (input : Input) (bounds : Bounds) : Type 0 where
+  pub known : AreKnown (codes "--box=" ∷ []) words
+  pub file : GivesFile words input
+  pub box : GivesBox words bounds
+
+-- `FILE --port=P --connections=N`, with a port from 1 to 65535 and a number from 1 to 1000000, and a file word that is a name
+pub record AsksServe (words : List (List ℕ)) (name : List ℕ) (port connections : ℕ) : Type 0 where
+  pub known : AreKnown (codes "--port=" ∷ codes "--connections=" ∷ []) words
+  pub file : GivesFile words (file_named name)
+  pub at_port : GivesNumber words (codes "--port=") 1 65535 port
+  pub as_often : GivesNumber words (codes "--connections=") 1 1000000 connections
+
+-- the words behind the command ask for this, in any order
+abbrev pub AsksBehind : List (List ℕ) → Request → Type 0
+AsksBehind words (query input bounds output) = AsksQuery words input bounds output
+AsksBehind words (check input) = AsksCheck words input
+AsksBehind words (pack input node_size) = AsksPack words input node_size
+AsksBehind words (report input bounds) = AsksReport words input bounds
+AsksBehind words (serve name port connections) = AsksServe words name port connections
+
+-- the words ask for this
+pub record Asks (words : List (List ℕ)) (request : Request) : Type 0 where
+  pub rest : List (List ℕ)
+  pub order : words ≡ command_name (command_of request) ∷ rest
+  pub behind : AsksBehind rest request
+
+-- they ask for nothing that there is
+abbrev pub IsUsage : List (List ℕ) → Type 0
+IsUsage words = (request : Request) → Asks words request → ⊥
+
+-- they ask for nothing that this call does
+abbrev pub IsUsageOf : (Request → Type 0) → List (List ℕ) → Type 0
+IsUsageOf IsDone words = (request : Request) → Asks words request → IsDone request → ⊥
+
+-- the requests of each call
+abbrev pub IsRun : Request → Type 0
+IsRun (query input bounds output) = ⊤
+IsRun (check input) = ⊤
+IsRun (pack input node_size) = ⊤
+IsRun (report input bounds) = ⊥
+IsRun (serve name port connections) = ⊥
+
+abbrev pub IsReport : Request → Type 0
+IsReport (query input bounds output) = ⊥
+IsReport (check input) = ⊥
+IsReport (pack input node_size) = ⊥
+IsReport (report input bounds) = ⊤
+IsReport (serve name port connections) = ⊥
+
+abbrev pub IsServe : Request → Type 0
+IsServe (query input bounds output) = ⊥
+IsServe (check input) = ⊥
+IsServe (pack input node_size) = ⊥
+IsServe (report input bounds) = ⊥
+IsServe (serve name port connections) = ⊤
+
+-- what a request reads, and the port that it serves at, or 0
+abbrev pub input_of : Request → Option Input
+input_of (query input bounds output) = Some input
+input_of (check input) = Some input
+input_of (pack input node_size) = Some input
+input_of (report input bounds) = Some input
+input_of (serve name port connections) = Some (file_named name)
+
+abbrev pub port_of : Request → ℕ
+port_of (query input bounds output) = 0
+port_of (check input) = 0
+port_of (pack input node_size) = 0
+port_of (report input bounds) = 0
+port_of (serve name port connections) = port
+
+-- what a target is
+abbrev pub input_at : Target → Option Input
+input_at Nothing = None
+input_at (File name) = Some (file_named name.now)
+input_at (Http port path) = Some (file_served port path.now)
+
+-- a port and a path of a server can be asked there
+abbrev pub IsReachable : Target → Type 0
+IsReachable Nothing = ⊤
+IsReachable (File name) = ⊤
+IsReachable (Http port path) = (1 ≤ port) × IsPath path.now

@@ -1,0 +1,74 @@
+// What words ask for, read.
+ghost use Rattle.std.specs.Prelude.{◌≡◌, Some};
+ghost use Rattle.command_words.specs.Asking.{input_in};
+ghost use Rattle.command_words.specs.Requests.{input_at};
+
+use crate::command::Target;
+use order_keys::Bounds;
+use text_query::Output;
+
+/// What the file word names.
+#[derive(Clone, Copy, Debug, PartialEq, Eq)]
+pub enum FileWord<'a> {
+    /// The file of this name.
+    Name(&'a str),
+    /// The file that a server on this machine serves at this port, which is not 0, and path.
+    Http { port: u16, path: &'a str },
+}
+
+impl<'a> FileWord<'a> {
+    /// It as the target of a command.
+    pub(crate) fn target(self) -> Target<'a>
+        ensures { input_at result ≡ Some (input_in self.entry) }
+    {
+        match self {
+            FileWord::Name(name) => Target::File(name),
+            FileWord::Http { port, path } => Target::Http { port, path },
+        }
+    }
+}
+
+/// A query of a file: which features are sought, and what is written of them.
+#[derive(Clone, Copy, Debug, PartialEq, Eq)]
+pub struct Query<'a> {
+    pub file: FileWord<'a>,
+    pub bounds: Bounds,
+    pub output: Output,
+}
+
+/// The packing of a file: how many children a node has, from 2 on.
+#[derive(Clone, Copy, Debug, PartialEq, Eq)]
+pub struct Packing<'a> {
+    pub file: FileWord<'a>,
+    pub node_size: u16,
+}
+
+/// Reports on a file: which features are sought.
+#[derive(Clone, Copy, Debug, PartialEq, Eq)]
+pub struct Reporting<'a> {
+    pub file: FileWord<'a>,
+    pub bounds: Bounds,
+}
+
+/// The serving of the file of a name: at which port, which is not 0, and for how many connections, from 1 to 1,000,000.
+#[derive(Clone, Copy, Debug, PartialEq, Eq)]
+pub struct Serving<'a> {
+    pub file: &'a str,
+    pub port: u16,
+    pub connections: u64,
+}
+
+/// What words ask for.
+#[derive(Clone, Copy, Debug, PartialEq, Eq)]
+pub enum Asked<'a> {
+    /// The features of a file that meet a box.
+    Query(Query<'a>),
+    /// Whether a file breaks a rule.
+    Check(FileWord<'a>),
+    /// A packing of a file.
+    Pack(Packing<'a>),
+    /// Reports on the features of a file that meet a box.
+    Report(Reporting<'a>),
+    /// The serving of a file.
+    Serve(Serving<'a>),
+}

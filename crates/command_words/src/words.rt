@@ -1,0 +1,164 @@
+// The words of a command.
+ghost use Rattle.std.specs.Prelude.{◌≡◌, ℕ, List, IfSome, IfNone, IsSomeAnd};
+ghost use Rattle.order_keys.specs.declared.bounds.Bounds.{Bounds as Box};
+ghost use Rattle.text_query.specs.declared.output.Output.{Output as Choice};
+ghost use Rattle.command_words.specs.Asking.{IsGiven, input_in, request_of};
+ghost use Rattle.command_words.specs.Requests.{Asks, AsksCheck, AsksPack, AsksQuery, AsksReport, AsksServe, IsReachable, IsUsage, Request, command_of, input_at, input_of, port_of};
+ghost use Rattle.command_words.specs.Words.{GivesBox, Input, IsOutput, texts, values};
+
+use crate::asked::{Asked, FileWord, Packing, Query, Reporting, Serving};
+use crate::command::{Command, Plan};
+use crate::files::file_of;
+use crate::given::{Given, are_known, value_of, values_of};
+use crate::numbers::number_of;
+use order_keys::{Bounds, read_box};
+use text_query::Output;
+
+/// What the words, which do not hold the program's name, ask for, or None where no call accepts them. The commands
+/// today are
+/// - `query FILE --box=MINX,MINY,MAXX,MAXY`, with `--out=lines`, `--out=fgb` or `--out=wkb`, or without for lines,
+/// - `check FILE`,
+/// - `pack FILE --node=N` with N from 2 to 65535,
+/// - `report FILE --box=MINX,MINY,MAXX,MAXY`,
+/// - `serve FILE --port=P --connections=N` with P from 1 to 65535 and N from 1 to 1000000.
+///
+/// FILE is a file's name or, but for `serve`, `http://127.0.0.1:PORT/PATH`, where `/PATH` has at most 1,024 bytes, all of
+/// them visible. The words behind the command may come in any order.
+pub fn plan<'a>(words: &[&'a str]) -> Option<Plan<'a>>
+    ensures planned { IfSome result (λ plan. (request : Request) × Asks (texts words.now) request
+        × (plan.command ≡ command_of request) × (input_at plan.target ≡ input_of request) × (plan.port ≡ port_of request)) }
+    ensures reachable { IfSome result (λ plan. IsReachable plan.target) }
+    ensures usage { IfNone result (IsUsage (texts words.now)) }
+{
+    let (command, file, port) = match read_words(words)? {
+        Asked::Query(query) => (Command::Query, query.file, 0),
+        Asked::Check(file) => (Command::Check, file, 0),
+        Asked::Pack(packing) => (Command::Pack, packing.file, 0),
+        Asked::Report(reporting) => (Command::Report, reporting.file, 0),
+        Asked::Serve(serving) => (Command::Serve, FileWord::Name(serving.file), serving.port),
+    };
+    Some(Plan {
+        command,
+        target: file.target(),
+        port,
+    })
+}
+
+/// Reads the words of a command, which do not hold the program's name.
+pub fn read_words<'a>(words: &[&'a str]) -> Option<Asked<'a>>
+    ensures asked { IfSome result (λ asked. Asks (texts words.now) (request_of asked)) }
+    ensures only { (request : Request) → Asks (texts words.now) request → IsSomeAnd result (λ asked. request_of asked ≡ request) }
+{
+    let [command, rest @ ..] = words else {
+        return None;
+    };
+    match Command::named(command)? {
+        Command::Query => Some(Asked::Query(read_query(rest)?)),
+        Command::Check => Some(Asked::Check(read_check(rest)?)),
+        Command::Pack => Some(Asked::Pack(read_pack(rest)?)),
+        Command::Report => Some(Asked::Report(read_report(rest)?)),
+        Command::Serve => Some(Asked::Serve(read_serve(rest)?)),
+        Command::Convert | Command::Make => None,
+    }
+}
+
+/// Reads the words behind `query`.
+fn read_query<'a>(words: &[&'a str]) -> Option<Query<'a>>
+    ensures some { IfSome result (λ q. AsksQuery (texts words.now) (input_in q.file) q.bounds q.output) }
+    ensures only { (input : Input) (bounds : Box) (output : Choice) → AsksQuery (texts words.now) input bounds output
+        → IsSomeAnd result (λ q. (input_in q.file ≡ input) × (q.bounds ≡ bounds) × (q.output ≡ output)) }
+{
+    if !are_known(words, &["--box=", "--out="]) {
+        return None;
+    }
+    let file = file_of(words)?;
+    let bounds = bounds_of(words)?;
+    let output = read_output(values_of(words, "--out="))?;
+    Some(Query {
+        file,
+        bounds,
+        output,
+    })
+}
+
+/// Reads the words behind `check`.
+fn read_check<'a>(words: &[&'a str]) -> Option<FileWord<'a>>
+    ensures some { IfSome result (λ file. AsksCheck (texts words.now) (input_in file)) }
+    ensures only { (input : Input) → AsksCheck (texts words.now) input → IsSomeAnd result (λ file. input_in file ≡ input) }
+{
+    if !are_known(words, &[]) {
+        return None;
+    }
+    file_of(words)
+}
+
+/// Reads the words behind `pack`.
+fn read_pack<'a>(words: &[&'a str]) -> Option<Packing<'a>>
+    ensures some { IfSome result (λ p. AsksPack (texts words.now) (input_in p.file) p.node_size) }
+    ensures only { (input : Input) (node_size : ℕ) → AsksPack (texts words.now) input node_size
+        → IsSomeAnd result (λ p. (input_in p.file ≡ input) × (p.node_size ≡ node_size)) }
+{
+    if !are_known(words, &["--node="]) {
+        return None;
+    }
+    let file = file_of(words)?;
+    let node_size = number_of(words, "--node=", 2, 65_535)? as u16;
+    Some(Packing { file, node_size })
+}
+
+/// Reads the words behind `report`.
+fn read_report<'a>(words: &[&'a str]) -> Option<Reporting<'a>>
+    ensures some { IfSome result (λ r. AsksReport (texts words.now) (input_in r.file) r.bounds) }
+    ensures only { (input : Input) (bounds : Box) → AsksReport (texts words.now) input bounds
+        → IsSomeAnd result (λ r. (input_in r.file ≡ input) × (r.bounds ≡ bounds)) }
+{
+    if !are_known(words, &["--box="]) {
+        return None;
+    }
+    let file = file_of(words)?;
+    let bounds = bounds_of(words)?;
+    Some(Reporting { file, bounds })
+}
+
+/// Reads the words behind `serve`.
+fn read_serve<'a>(words: &[&'a str]) -> Option<Serving<'a>>
+    ensures some { IfSome result (λ s. AsksServe (texts words.now) s.file.now s.port s.connections) }
+    ensures only { (name : List ℕ) (port connections : ℕ) → AsksServe (texts words.now) name port connections
+        → IsSomeAnd result (λ s. (s.file.now ≡ name) × (s.port ≡ port) × (s.connections ≡ connections)) }
+{
+    if !are_known(words, &["--port=", "--connections="]) {
+        return None;
+    }
+    let file = match file_of(words)? {
+        FileWord::Name(name) => name,
+        FileWord::Http { .. } => return None,
+    };
+    let port = number_of(words, "--port=", 1, 65_535)? as u16;
+    let connections = number_of(words, "--connections=", 1, 1_000_000)?;
+    Some(Serving {
+        file,
+        port,
+        connections,
+    })
+}
+
+/// The box that the words give.
+fn bounds_of(words: &[&str]) -> Option<Bounds>
+    ensures some { IfSome result (GivesBox (texts words.now)) }
+    ensures only { (bounds : Box) → GivesBox (texts words.now) bounds → IsSomeAnd result (λ b. b ≡ bounds) }
+{
+    read_box(value_of(words, "--box=")?).ok()
+}
+
+/// The output of a name, or lines where there is none.
+fn read_output(given: Given) -> Option<Output>
+    ensures some { IfSome result (λ output. (names : List (List ℕ)) → IsGiven given.entry names → IsOutput names output) }
+    ensures only { (names : List (List ℕ)) (output : Choice) → IsGiven given.entry names → IsOutput names output → IsSomeAnd result (λ o. o ≡ output) }
+{
+    match given {
+        Given::Never | Given::Once("lines") => Some(Output::Lines),
+        Given::Once("fgb") => Some(Output::Fgb),
+        Given::Once("wkb") => Some(Output::Wkb),
+        _ => None,
+    }
+}

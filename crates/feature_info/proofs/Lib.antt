@@ -1,0 +1,4 @@
+mod Back
+mod LaidFields
+mod Lists
+mod Standing

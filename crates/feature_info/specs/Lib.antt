@@ -1,0 +1,4 @@
+pub mod OwnedFeature
+pub mod OwnedProp
+pub mod OwnedValue
+pub mod Records

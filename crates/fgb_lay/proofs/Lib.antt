@@ -1,0 +1,5 @@
+mod PlansOfFeatures
+mod Putting
+mod PuttingFiles
+mod Sizes
+mod Stopping

@@ -1,0 +1,3 @@
+pub mod Laying
+pub mod Plans
+pub mod Puts

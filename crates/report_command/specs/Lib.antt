@@ -1,0 +1,3 @@
+pub mod Feeds
+pub mod Writes
+pub mod Reports

@@ -1,0 +1,11 @@
+mod Numbers
+mod Climbing
+mod Passing
+mod Reading
+mod AtLeaves
+mod AtFeatures
+mod Visiting
+mod Exits
+mod Stepping
+mod Meeting
+mod Running

@@ -1,0 +1,4 @@
+mod Following
+mod Places
+mod Reading
+mod Spelled

@@ -1,0 +1,5 @@
+pub mod Broken
+pub mod InTurn
+pub mod Reads
+pub mod Spellings
+pub mod Values
