@@ -3,7 +3,7 @@ use Rattle.std.proofs.Common.{◌≡◌, ◌∙◌, ◌||◌, if◌then◌else�
 use Rattle.std.specs.Borrow.{Bor}
 use Rattle.std.specs.Prelude.{Option, Some, None}
 use Rattle.std.specs.Option.{MatchOption}
-use Rattle.std.specs.List.{filter, filter_map, cons_option, list_all, list_any, starts_with}
+use Rattle.std.specs.List.{filter, cons_option, list_all, list_any, starts_with}
 use Rattle.std.specs.Str.{IsCharBoundary}
 use Rattle.std.specs.Str.Pattern.{StripsPrefix, FindsTextPrefix}
 use Rattle.std.proofs.lemmas.Str.Pattern.{starts_text}

@@ -1,6 +1,6 @@
 -- A port and a path, in one text.
-use Rattle.std.proofs.Common.{◌≡◌, ◌≢◌, ◌∙◌, ◌&&◌, nat_eq, nat_le, ℕ, ◌+◌, ◌<◌, ◌≤◌, [], ◌∷◌, ◌++◌, List, length, get_or, take, drop, Bool, true, false, codes, refl, sym, ap, subst, arith}
-use Rattle.std.specs.Prelude.{Option, Some, None}
+use Rattle.std.proofs.Common.{◌≡◌, ◌≢◌, ◌∙◌, ◌&&◌, nat_eq, nat_le, ℕ, ◌<◌, [], ◌∷◌, ◌++◌, List, length, get_or, take, drop, true, false, codes, refl, ap, arith}
+use Rattle.std.specs.Prelude.{Option}
 use Rattle.std.specs.Option.{MatchOption}
 use Rattle.std.specs.Borrow.{Bor}
 use Rattle.std.specs.Char.{is_ascii_digit, is_ascii_graphic}
@@ -11,7 +11,7 @@ use Rattle.std.proofs.lemmas.List.Folds.{list_all_at}
 use Rattle.std.proofs.lemmas.Str.Pattern.{IsSplitOnceResult, split_after}
 use Rattle.order_keys.proofs.Spelling.{all_digits}
 use Rattle.range_client.specs.Requests.{IsPath}
-use Rattle.command_words.specs.Words.{Input, file_named, file_served, Names, SpellsServed, is_number}
+use Rattle.command_words.specs.Words.{Input, file_named, file_served, Names, SpellsServed}
 use Rattle.command_words.proofs.Wording.{number_parts}
 
 -- digits are no slashes

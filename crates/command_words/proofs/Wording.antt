@@ -12,7 +12,8 @@ use Rattle.text_query.specs.declared.output.Output.{Output}
 use Rattle.command_words.specs.declared.command.Command.{Command}
 use Rattle.command_words.specs.declared.command.Command.TheVariants.{Query, Check, Pack, Convert, Make, Report, Serve}
 use Rattle.command_words.specs.Words.{Input, is_number, texts}
-use Rattle.command_words.specs.Requests.{Request, query, check, pack, report, serve, command_of, command_name, Asks, AsksBehind, AsksQuery, AsksCheck, AsksPack, AsksReport, AsksServe}
+use Rattle.command_words.specs.declared.format.Format.{Format}
+use Rattle.command_words.specs.Requests.{Request, query, check, pack, convert, make, report, serve, command_of, command_name, Asks, AsksBehind, AsksQuery, AsksCheck, AsksPack, AsksConvert, AsksMake, AsksReport, AsksServe}
 
 pub number_parts : (digits : List ℕ) → is_number digits ≡ true → (1 ≤ length digits) × (length digits ≤ 10) × (all_ascii_digits digits ≡ true)
 number_parts digits is = grind arith
@@ -83,6 +84,14 @@ module _ (rest : List (List ℕ)) where
   pub pack_asked : (request : Request) → Heads rest Pack request → (input : Input) × (node_size : ℕ) × (pack input node_size ≡ request) × AsksPack rest input node_size
   pack_asked (pack input node_size) head = (input, node_size, refl, head.behind)
   pack_asked other head = absurd (cc)
+
+  pub convert_asked : (request : Request) → Heads rest Convert request → (input : Input) × (from : Format) × (to : Format) × (convert input from to ≡ request) × AsksConvert rest input from to
+  convert_asked (convert input from to) head = (input, from, to, refl, head.behind)
+  convert_asked other head = absurd (cc)
+
+  pub make_asked : (request : Request) → Heads rest Make request → (count : ℕ) × (start : ℕ) × (make count start ≡ request) × AsksMake rest count start
+  make_asked (make count start) head = (count, start, refl, head.behind)
+  make_asked other head = absurd (cc)
 
   pub report_asked : (request : Request) → Heads rest Report request → (input : Input) × (bounds : Bounds) × (report input bounds ≡ request) × AsksReport rest input bounds
   report_asked (report input bounds) head = (input, bounds, refl, head.behind)

@@ -2,11 +2,11 @@
 use Rattle.std.specs.Prelude.{◌≡◌, ◌≤◌, List, [], ◌∷◌, ℕ, length, Option, Some, None}
 use Rattle.std.specs.Borrow.{Bor}
 use Rattle.command_words.specs.Words.{Input, file_named, file_served}
-use Rattle.command_words.specs.Requests.{Request, query, check, pack, report, serve}
+use Rattle.command_words.specs.Requests.{Request, query, check, pack, convert, make, report, serve}
 use Rattle.command_words.specs.declared.asked.FileWord.{FileWord}
 use Rattle.command_words.specs.declared.asked.FileWord.TheVariants.{Name, Http}
 use Rattle.command_words.specs.declared.asked.Asked.{Asked}
-use Rattle.command_words.specs.declared.asked.Asked.TheVariants.{Query, Check, Pack, Report, Serve}
+use Rattle.command_words.specs.declared.asked.Asked.TheVariants.{Query, Check, Pack, Convert, Make, Report, Serve}
 use Rattle.command_words.specs.declared.given.Given.{Given}
 use Rattle.command_words.specs.declared.given.Given.TheVariants.{Never, Once, Often}
 
@@ -19,6 +19,8 @@ abbrev pub request_of : Asked → Request
 request_of (Query q) = query (input_in q.file) q.bounds q.output
 request_of (Check file) = check (input_in file)
 request_of (Pack packing) = pack (input_in packing.file) packing.node_size
+request_of (Convert converting) = convert (input_in converting.file) converting.from converting.to
+request_of (Make making) = make making.count making.start
 request_of (Report reporting) = report (input_in reporting.file) reporting.bounds
 request_of (Serve serving) = serve serving.file.now serving.port serving.connections
 

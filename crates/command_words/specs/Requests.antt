@@ -8,15 +8,19 @@ use Rattle.command_words.specs.declared.command.Command.{Command}
 use Rattle.command_words.specs.declared.command.Command.TheVariants as a
 use Rattle.command_words.specs.declared.command.Target.{Target}
 use Rattle.command_words.specs.declared.command.Target.TheVariants.{Nothing, File, Http}
-use Rattle.command_words.specs.Words.{Input, file_named, file_served, is_known, values, GivesFile, GivesNumber, GivesBox, IsOutput}
+use Rattle.command_words.specs.declared.format.Format.{Format}
+use Rattle.command_words.specs.Words.{Input, file_named, file_served, is_known, values, GivesFile, GivesNumber, GivesBox, GivesFormat, GivesNoFile, IsOutput}
 
 -- what can be asked: for the features of this file that meet this box, in this form; whether this file breaks a rule; for
--- the packing of this file with nodes of so many children; for reports on the features of this file that meet this box;
--- or to serve the file of this name at this port for so many connections
+-- the packing of this file with nodes of so many children; for the conversion of this file from this form to that one; to
+-- make so many features from this one on and query them; for reports on the features of this file that meet this box; or to
+-- serve the file of this name at this port for so many connections
 pub data Request : Type 0 where
   query : Input → Bounds → Output → Request
   check : Input → Request
   pack : Input → ℕ → Request
+  convert : Input → Format → Format → Request
+  make : ℕ → ℕ → Request
   report : Input → Bounds → Request
   serve : List ℕ → ℕ → ℕ → Request
 
@@ -25,6 +29,8 @@ abbrev pub command_of : Request → Command
 command_of (query input bounds output) = a.Query
 command_of (check input) = a.Check
 command_of (pack input node_size) = a.Pack
+command_of (convert input from to) = a.Convert
+command_of (make count start) = a.Make
 command_of (report input bounds) = a.Report
 command_of (serve name port connections) = a.Serve
 
@@ -60,6 +66,20 @@ pub record AsksPack (words : List (List ℕ)) (input : Input) (node_size : ℕ) 
   pub file : GivesFile words input
   pub children : GivesNumber words (codes "--node=") 2 65535 node_size
 
+-- `FILE --from=FORM --to=FORM`, where each form is `fgb` or `wkb`
+pub record AsksConvert (words : List (List ℕ)) (input : Input) (from to : Format) : Type 0 where
+  pub known : AreKnown (codes "--from=" ∷ codes "--to=" ∷ []) words
+  pub file : GivesFile words input
+  pub read_as : GivesFormat words (codes "--from=") from
+  pub written_as : GivesFormat words (codes "--to=") to
+
+-- `--count=N --start=K`, with numbers from 0 to 1000000 and from 0 to 1000000000, and no file word
+pub record AsksMake (words : List (List ℕ)) (count start : ℕ) : Type 0 where
+  pub known : AreKnown (codes "--count=" ∷ codes "--start=" ∷ []) words
+  pub no_file : GivesNoFile words
+  pub so_many : GivesNumber words (codes "--count=") 0 1000000 count
+  pub from_on : GivesNumber words (codes "--start=") 0 1000000000 start
+
 -- `FILE --box=BOX`
 pub record AsksReport (words : List (List ℕ)) (input : Input) (bounds : Bounds) : Type 0 where
   pub known : AreKnown (codes "--box=" ∷ []) words
@@ -78,6 +98,8 @@ abbrev pub AsksBehind : List (List ℕ) → Request → Type 0
 AsksBehind words (query input bounds output) = AsksQuery words input bounds output
 AsksBehind words (check input) = AsksCheck words input
 AsksBehind words (pack input node_size) = AsksPack words input node_size
+AsksBehind words (convert input from to) = AsksConvert words input from to
+AsksBehind words (make count start) = AsksMake words count start
 AsksBehind words (report input bounds) = AsksReport words input bounds
 AsksBehind words (serve name port connections) = AsksServe words name port connections
 
@@ -100,6 +122,8 @@ abbrev pub IsRun : Request → Type 0
 IsRun (query input bounds output) = ⊤
 IsRun (check input) = ⊤
 IsRun (pack input node_size) = ⊤
+IsRun (convert input from to) = ⊤
+IsRun (make count start) = ⊤
 IsRun (report input bounds) = ⊥
 IsRun (serve name port connections) = ⊥
 
@@ -107,6 +131,8 @@ abbrev pub IsReport : Request → Type 0
 IsReport (query input bounds output) = ⊥
 IsReport (check input) = ⊥
 IsReport (pack input node_size) = ⊥
+IsReport (convert input from to) = ⊥
+IsReport (make count start) = ⊥
 IsReport (report input bounds) = ⊤
 IsReport (serve name port connections) = ⊥
 
@@ -114,14 +140,18 @@ abbrev pub IsServe : Request → Type 0
 IsServe (query input bounds output) = ⊥
 IsServe (check input) = ⊥
 IsServe (pack input node_size) = ⊥
+IsServe (convert input from to) = ⊥
+IsServe (make count start) = ⊥
 IsServe (report input bounds) = ⊥
 IsServe (serve name port connections) = ⊤
 
--- what a request reads, and the port that it serves at, or 0
+-- what a request reads, if it reads a file, and the port that it serves at, or 0
 abbrev pub input_of : Request → Option Input
 input_of (query input bounds output) = Some input
 input_of (check input) = Some input
 input_of (pack input node_size) = Some input
+input_of (convert input from to) = Some input
+input_of (make count start) = None
 input_of (report input bounds) = Some input
 input_of (serve name port connections) = Some (file_named name)
 
@@ -129,6 +159,8 @@ abbrev pub port_of : Request → ℕ
 port_of (query input bounds output) = 0
 port_of (check input) = 0
 port_of (pack input node_size) = 0
+port_of (convert input from to) = 0
+port_of (make count start) = 0
 port_of (report input bounds) = 0
 port_of (serve name port connections) = port
 

@@ -9,6 +9,8 @@ use Rattle.order_keys.specs.declared.bounds.Bounds.{Bounds}
 use Rattle.order_keys.specs.Words.{SpellsBox}
 use Rattle.text_query.specs.declared.output.Output.{Output}
 use Rattle.text_query.specs.declared.output.Output.TheVariants.{Lines, Fgb, Wkb}
+use Rattle.command_words.specs.declared.format.Format.{Format}
+use Rattle.command_words.specs.declared.format.Format.TheVariants as f
 
 -- the texts of some words
 abbrev pub texts : List (Bor (List ℕ)) → List (List ℕ)
@@ -72,6 +74,10 @@ pub record GivesFile (words : List (List ℕ)) (input : Input) : Type 0 where
   pub once : filter is_file_word words ≡ word ∷ []
   pub names : Names word input
 
+-- there is no file word
+abbrev pub GivesNoFile : List (List ℕ) → Type 0
+GivesNoFile words = filter is_file_word words ≡ []
+
 -- the option of this name is given once, and its value is a number between these
 pub record GivesNumber (words : List (List ℕ)) (name : List ℕ) (least most number : ℕ) : Type 0 where
   pub digits : List ℕ
@@ -83,6 +89,15 @@ pub record GivesBox (words : List (List ℕ)) (bounds : Bounds) : Type 0 where
   pub box : List ℕ
   pub once : values (codes "--box=") words ≡ box ∷ []
   pub spelled : SpellsBox box bounds
+
+-- the name of a form
+abbrev pub format_name : Format → List ℕ
+format_name f.Fgb = codes "fgb"
+format_name f.Wkb = codes "wkb"
+
+-- the option of this name is given once, and its value is the name of this form
+abbrev pub GivesFormat : List (List ℕ) → List ℕ → Format → Type 0
+GivesFormat words name form = values name words ≡ format_name form ∷ []
 
 -- the name of an output
 abbrev pub output_name : Output → List ℕ

@@ -4,6 +4,7 @@ ghost use Rattle.command_words.specs.Asking.{input_in};
 ghost use Rattle.command_words.specs.Requests.{input_at};
 
 use crate::command::Target;
+use crate::format::Format;
 use order_keys::Bounds;
 use text_query::Output;
 
@@ -43,6 +44,21 @@ pub struct Packing<'a> {
     pub node_size: u16,
 }
 
+/// The conversion of a file: which form it has, and which form is written.
+#[derive(Clone, Copy, Debug, PartialEq, Eq)]
+pub struct Converting<'a> {
+    pub file: FileWord<'a>,
+    pub from: Format,
+    pub to: Format,
+}
+
+/// The making of features: how many, from 0 to 1,000,000, and the number of the first, from 0 to 1,000,000,000.
+#[derive(Clone, Copy, Debug, PartialEq, Eq)]
+pub struct Making {
+    pub count: u64,
+    pub start: u64,
+}
+
 /// Reports on a file: which features are sought.
 #[derive(Clone, Copy, Debug, PartialEq, Eq)]
 pub struct Reporting<'a> {
@@ -67,6 +83,10 @@ pub enum Asked<'a> {
     Check(FileWord<'a>),
     /// A packing of a file.
     Pack(Packing<'a>),
+    /// A file in another form, or anew in its own.
+    Convert(Converting<'a>),
+    /// Features that are made, packed and queried in memory.
+    Make(Making),
     /// Reports on the features of a file that meet a box.
     Report(Reporting<'a>),
     /// The serving of a file.

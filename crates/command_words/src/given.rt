@@ -1,8 +1,8 @@
 // What words give.
-ghost use Rattle.std.specs.Prelude.{◌≡◌, ◌≢◌, ◌++◌, ◌∷◌, [], ℕ, List, nat_eq, IfSome, IfNone};
+ghost use Rattle.std.specs.Prelude.{◌≡◌, ◌≢◌, ◌↔◌, ◌++◌, ◌∷◌, [], ℕ, List, nat_eq, IsTrue, IfSome, IfNone};
 ghost use Rattle.std.specs.List.{filter, list_all, list_any, starts_with};
 ghost use Rattle.command_words.specs.Asking.{IsGiven, at_most_one};
-ghost use Rattle.command_words.specs.Words.{is_file_word, is_known, texts, values};
+ghost use Rattle.command_words.specs.Words.{GivesNoFile, is_file_word, is_known, texts, values};
 
 /// How often words give something, and what they give where they give it once.
 #[derive(Clone, Copy)]
@@ -23,6 +23,16 @@ impl<'a> Given<'a> {
         match self {
             Given::Never => Given::Once(text),
             Given::Once(_) | Given::Often => Given::Often,
+        }
+    }
+
+    /// Whether nothing is given.
+    fn is_never(self) -> bool
+        ensures { (found : List (List ℕ)) → IsGiven self.entry found → IsTrue result ↔ (found ≡ []) }
+    {
+        match self {
+            Given::Never => true,
+            Given::Once(_) | Given::Often => false,
         }
     }
 
@@ -57,16 +67,30 @@ pub(crate) fn value_of<'a>(words: &[&'a str], name: &str) -> Option<&'a str>
     values_of(words, name).once()
 }
 
-/// The one file word.
-pub(crate) fn file_word<'a>(words: &[&'a str]) -> Option<&'a str>
-    ensures some { IfSome result (λ word. filter is_file_word (texts words.now) ≡ word.now ∷ []) }
-    ensures none { IfNone result ((word : List ℕ) → filter is_file_word (texts words.now) ≢ word ∷ []) }
+/// The file words.
+fn file_words<'a>(words: &[&'a str]) -> Given<'a>
+    ensures { IsGiven result (filter is_file_word (texts words.now)) }
 {
     let mut given = Given::Never;
     for word in words {
         given = given.and(file_in(word));
     }
-    given.once()
+    given
+}
+
+/// The one file word.
+pub(crate) fn file_word<'a>(words: &[&'a str]) -> Option<&'a str>
+    ensures some { IfSome result (λ word. filter is_file_word (texts words.now) ≡ word.now ∷ []) }
+    ensures none { IfNone result ((word : List ℕ) → filter is_file_word (texts words.now) ≢ word ∷ []) }
+{
+    file_words(words).once()
+}
+
+/// Whether there is no file word.
+pub(crate) fn has_no_file(words: &[&str]) -> bool
+    ensures { IsTrue result ↔ GivesNoFile (texts words.now) }
+{
+    file_words(words).is_never()
 }
 
 /// What a word gives the option of this name.

@@ -15,6 +15,7 @@
 mod asked;
 mod command;
 mod files;
+mod format;
 mod given;
 mod numbers;
 mod statuses;
@@ -24,8 +25,9 @@ mod tests;
 mod texts;
 mod words;
 
-pub use asked::{Asked, FileWord, Packing, Query, Reporting, Serving};
+pub use asked::{Asked, Converting, FileWord, Making, Packing, Query, Reporting, Serving};
 pub use command::{Command, Plan, Target};
+pub use format::Format;
 pub use statuses::{
     DONE, LARGE, MEMORY, REFUSED, SINK, SOURCE, WRONG_WORDS, refuse_words, status_of,
 };

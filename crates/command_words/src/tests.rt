@@ -28,6 +28,61 @@ fn a_served_file_is_planned(rt: HostRuntime) {
 }
 
 #[test]
+fn a_conversion_is_planned(rt: HostRuntime) {
+    let words = ["convert", "--to=wkb", "map.fgb", "--from=fgb"];
+    let converting = Converting {
+        file: FileWord::Name("map.fgb"),
+        from: Format::Fgb,
+        to: Format::Wkb,
+    };
+    assert_eq!(rt; read_words(&words), Some(Asked::Convert(converting)));
+    let converted = Plan {
+        command: Command::Convert,
+        target: Target::File("map.fgb"),
+        port: 0,
+    };
+    assert_eq!(rt; plan(&words), Some(converted));
+}
+
+#[test]
+fn a_conversion_has_two_forms(rt: HostRuntime) {
+    assert_eq!(rt; plan(&["convert", "map.fgb", "--from=fgb"]), None);
+    let unknown = ["convert", "map.fgb", "--from=fgb", "--to=kml"];
+    assert_eq!(rt; plan(&unknown), None);
+    let twice = ["convert", "map.fgb", "--from=fgb", "--to=wkb", "--to=wkb"];
+    assert_eq!(rt; plan(&twice), None);
+}
+
+#[test]
+fn a_making_is_planned(rt: HostRuntime) {
+    let words = ["make", "--start=32670", "--count=1"];
+    let making = Making {
+        count: 1,
+        start: 32_670,
+    };
+    assert_eq!(rt; read_words(&words), Some(Asked::Make(making)));
+    let made = Plan {
+        command: Command::Make,
+        target: Target::Nothing,
+        port: 0,
+    };
+    assert_eq!(rt; plan(&words), Some(made));
+}
+
+#[test]
+fn a_making_has_two_numbers_and_no_file(rt: HostRuntime) {
+    let largest = ["make", "--count=1000000", "--start=1000000000"];
+    assert!(rt; plan(&largest).is_some());
+    let many = ["make", "--count=1000001", "--start=0"];
+    assert_eq!(rt; plan(&many), None);
+    let far = ["make", "--count=1", "--start=1000000001"];
+    assert_eq!(rt; plan(&far), None);
+    assert_eq!(rt; plan(&["make", "--count=1"]), None);
+    let named = ["make", "map.fgb", "--count=1", "--start=0"];
+    assert_eq!(rt; plan(&named), None);
+}
+
+#[test]
 fn a_serving_is_planned(rt: HostRuntime) {
     let words = ["serve", "--connections=1", "map.fgb", "--port=8080"];
     let served = Plan {

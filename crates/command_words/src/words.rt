@@ -3,22 +3,26 @@ ghost use Rattle.std.specs.Prelude.{◌≡◌, ℕ, List, IfSome, IfNone, IsSome
 ghost use Rattle.order_keys.specs.declared.bounds.Bounds.{Bounds as Box};
 ghost use Rattle.text_query.specs.declared.output.Output.{Output as Choice};
 ghost use Rattle.command_words.specs.Asking.{IsGiven, input_in, request_of};
-ghost use Rattle.command_words.specs.Requests.{Asks, AsksCheck, AsksPack, AsksQuery, AsksReport, AsksServe, IsReachable, IsUsage, Request, command_of, input_at, input_of, port_of};
-ghost use Rattle.command_words.specs.Words.{GivesBox, Input, IsOutput, texts, values};
+ghost use Rattle.command_words.specs.Requests.{Asks, AsksCheck, AsksConvert, AsksMake, AsksPack, AsksQuery, AsksReport, AsksServe, IsReachable, IsUsage, Request, command_of, input_at, input_of, port_of};
+ghost use Rattle.command_words.specs.Words.{GivesBox, GivesFormat, Input, IsOutput, format_name, texts, values};
+ghost use Rattle.command_words.specs.declared.format.Format.{Format as Form};
 
-use crate::asked::{Asked, FileWord, Packing, Query, Reporting, Serving};
-use crate::command::{Command, Plan};
+use crate::asked::{Asked, Converting, FileWord, Making, Packing, Query, Reporting, Serving};
+use crate::command::{Command, Plan, Target};
 use crate::files::file_of;
-use crate::given::{Given, are_known, value_of, values_of};
+use crate::format::Format;
+use crate::given::{Given, are_known, has_no_file, value_of, values_of};
 use crate::numbers::number_of;
 use order_keys::{Bounds, read_box};
 use text_query::Output;
 
 /// What the words, which do not hold the program's name, ask for, or None where no call accepts them. The commands
-/// today are
+/// are
 /// - `query FILE --box=MINX,MINY,MAXX,MAXY`, with `--out=lines`, `--out=fgb` or `--out=wkb`, or without for lines,
 /// - `check FILE`,
 /// - `pack FILE --node=N` with N from 2 to 65535,
+/// - `convert FILE --from=FORM --to=FORM`, where each FORM is `fgb` or `wkb`,
+/// - `make --count=N --start=K` with N from 0 to 1000000 and K from 0 to 1000000000,
 /// - `report FILE --box=MINX,MINY,MAXX,MAXY`,
 /// - `serve FILE --port=P --connections=N` with P from 1 to 65535 and N from 1 to 1000000.
 ///
@@ -30,16 +34,18 @@ pub fn plan<'a>(words: &[&'a str]) -> Option<Plan<'a>>
     ensures reachable { IfSome result (λ plan. IsReachable plan.target) }
     ensures usage { IfNone result (IsUsage (texts words.now)) }
 {
-    let (command, file, port) = match read_words(words)? {
-        Asked::Query(query) => (Command::Query, query.file, 0),
-        Asked::Check(file) => (Command::Check, file, 0),
-        Asked::Pack(packing) => (Command::Pack, packing.file, 0),
-        Asked::Report(reporting) => (Command::Report, reporting.file, 0),
-        Asked::Serve(serving) => (Command::Serve, FileWord::Name(serving.file), serving.port),
+    let (command, target, port) = match read_words(words)? {
+        Asked::Query(query) => (Command::Query, query.file.target(), 0),
+        Asked::Check(file) => (Command::Check, file.target(), 0),
+        Asked::Pack(packing) => (Command::Pack, packing.file.target(), 0),
+        Asked::Convert(converting) => (Command::Convert, converting.file.target(), 0),
+        Asked::Make(_) => (Command::Make, Target::Nothing, 0),
+        Asked::Report(reporting) => (Command::Report, reporting.file.target(), 0),
+        Asked::Serve(serving) => (Command::Serve, Target::File(serving.file), serving.port),
     };
     Some(Plan {
         command,
-        target: file.target(),
+        target,
         port,
     })
 }
@@ -56,9 +62,10 @@ pub fn read_words<'a>(words: &[&'a str]) -> Option<Asked<'a>>
         Command::Query => Some(Asked::Query(read_query(rest)?)),
         Command::Check => Some(Asked::Check(read_check(rest)?)),
         Command::Pack => Some(Asked::Pack(read_pack(rest)?)),
+        Command::Convert => Some(Asked::Convert(read_convert(rest)?)),
+        Command::Make => Some(Asked::Make(read_make(rest)?)),
         Command::Report => Some(Asked::Report(read_report(rest)?)),
         Command::Serve => Some(Asked::Serve(read_serve(rest)?)),
-        Command::Convert | Command::Make => None,
     }
 }
 
@@ -106,6 +113,38 @@ fn read_pack<'a>(words: &[&'a str]) -> Option<Packing<'a>>
     Some(Packing { file, node_size })
 }
 
+/// Reads the words behind `convert`.
+fn read_convert<'a>(words: &[&'a str]) -> Option<Converting<'a>>
+    ensures some { IfSome result (λ c. AsksConvert (texts words.now) (input_in c.file) c.from c.to) }
+    ensures only { (input : Input) (from to : Form) → AsksConvert (texts words.now) input from to
+        → IsSomeAnd result (λ c. (input_in c.file ≡ input) × (c.from ≡ from) × (c.to ≡ to)) }
+{
+    if !are_known(words, &["--from=", "--to="]) {
+        return None;
+    }
+    let file = file_of(words)?;
+    let from = format_of(words, "--from=")?;
+    let to = format_of(words, "--to=")?;
+    Some(Converting { file, from, to })
+}
+
+/// Reads the words behind `make`.
+fn read_make(words: &[&str]) -> Option<Making>
+    ensures some { IfSome result (λ m. AsksMake (texts words.now) m.count m.start) }
+    ensures only { (count start : ℕ) → AsksMake (texts words.now) count start
+        → IsSomeAnd result (λ m. (m.count ≡ count) × (m.start ≡ start)) }
+{
+    if !are_known(words, &["--count=", "--start="]) {
+        return None;
+    }
+    if !has_no_file(words) {
+        return None;
+    }
+    let count = number_of(words, "--count=", 0, 1_000_000)?;
+    let start = number_of(words, "--start=", 0, 1_000_000_000)?;
+    Some(Making { count, start })
+}
+
 /// Reads the words behind `report`.
 fn read_report<'a>(words: &[&'a str]) -> Option<Reporting<'a>>
     ensures some { IfSome result (λ r. AsksReport (texts words.now) (input_in r.file) r.bounds) }
@@ -148,6 +187,26 @@ fn bounds_of(words: &[&str]) -> Option<Bounds>
     ensures only { (bounds : Box) → GivesBox (texts words.now) bounds → IsSomeAnd result (λ b. b ≡ bounds) }
 {
     read_box(value_of(words, "--box=")?).ok()
+}
+
+/// The form that the words give the option of this name.
+fn format_of(words: &[&str], name: &str) -> Option<Format>
+    ensures some { IfSome result (GivesFormat (texts words.now) name.now) }
+    ensures only { (form : Form) → GivesFormat (texts words.now) name.now form → IsSomeAnd result (λ f. f ≡ form) }
+{
+    read_format(value_of(words, name)?)
+}
+
+/// Reads the name of a form.
+fn read_format(name: &str) -> Option<Format>
+    ensures some { IfSome result (λ form. name.now ≡ format_name form) }
+    ensures only { (form : Form) → name.now ≡ format_name form → IsSomeAnd result (λ f. f ≡ form) }
+{
+    match name {
+        "fgb" => Some(Format::Fgb),
+        "wkb" => Some(Format::Wkb),
+        _ => None,
+    }
 }
 
 /// The output of a name, or lines where there is none.

@@ -1,3 +1,5 @@
 mod Checking
 mod Packing
 mod Running
+mod Converting
+mod Making

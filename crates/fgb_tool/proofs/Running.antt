@@ -26,7 +26,7 @@ use Rattle.command_words.specs.declared.stop.Stop.TheVariants.{Refused, SourceFa
 use Rattle.command_words.specs.Causes.{IsTextCause}
 use Rattle.command_words.specs.Statuses.{IsStatus, IfRefused}
 use Rattle.command_words.specs.Words.{Input}
-use Rattle.command_words.specs.Requests.{Request, query, check, pack, report, serve}
+use Rattle.command_words.specs.Requests.{Request, query, check, pack}
 use Rattle.command_words.proofs.Meanings.{statuses, statuses_of_small, not_usage, at_done, at_refused, at_source, at_sink, at_memory, at_large, unfailed}
 use Rattle.fgb_tool.specs.Texts.{accepted_text}
 use Rattle.fgb_tool.specs.Runs.{Runs, Accepts, AcceptsPart, Checks, WritesPacking, Repacks, Does}
@@ -35,19 +35,19 @@ use Rattle.fgb_tool.proofs.Checking.{numbered_valid}
 -- ## What is left of four statuses
 
 module _ {A B C D : Type 0} where
-  done_or_memory : (B → ⊥) → (D → ⊥) → A ⊎ B ⊎ C ⊎ D → A ⊎ C
+  pub done_or_memory : (B → ⊥) → (D → ⊥) → A ⊎ B ⊎ C ⊎ D → A ⊎ C
   done_or_memory refused large (inl a) = inl a
   done_or_memory refused large (inr (inl b)) = absurd (refused b)
   done_or_memory refused large (inr (inr (inl c))) = inr c
   done_or_memory refused large (inr (inr (inr d))) = absurd (large d)
 
-  refused_or_memory : (A → ⊥) → (D → ⊥) → A ⊎ B ⊎ C ⊎ D → B ⊎ C
+  pub refused_or_memory : (A → ⊥) → (D → ⊥) → A ⊎ B ⊎ C ⊎ D → B ⊎ C
   refused_or_memory done large (inl a) = absurd (done a)
   refused_or_memory done large (inr (inl b)) = inl b
   refused_or_memory done large (inr (inr (inl c))) = inr c
   refused_or_memory done large (inr (inr (inr d))) = absurd (large d)
 
-  large_or_memory : (A → ⊥) → (B → ⊥) → A ⊎ B ⊎ C ⊎ D → D ⊎ C
+  pub large_or_memory : (A → ⊥) → (B → ⊥) → A ⊎ B ⊎ C ⊎ D → D ⊎ C
   large_or_memory done refused (inl a) = absurd (done a)
   large_or_memory done refused (inr (inl b)) = absurd (refused b)
   large_or_memory done refused (inr (inr (inl c))) = inr c

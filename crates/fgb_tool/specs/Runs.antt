@@ -1,5 +1,6 @@
--- What a query, a check, a packing and a run promise.
+-- What a query, a check, a packing, a conversion, a making and a run promise.
 use Rattle.std.specs.Prelude.{◌≡◌, ◌≢◌, ◌⊎◌, ℕ, List, [], Option, Some}
+use Rattle.std.specs.List.{AllByRecursion}
 use Rattle.order_keys.specs.declared.bounds.Bounds.{Bounds}
 use Rattle.flat_layout.specs.declared.Broken.{Broken}
 use Rattle.fgb_outside.specs.Source.{Source, IfTold, Rose}
@@ -16,8 +17,15 @@ use Rattle.text_query.specs.declared.output.Output.{Output}
 use Rattle.text_query.specs.declared.output.Output.TheVariants.{Fgb}
 use Rattle.packed_file.specs.Packing.{IsPacking, IsTooLarge}
 use Rattle.fgb_pack.specs.Packs.{PacksPart}
+use Rattle.fgb_lay.specs.Laying.{HasNoRoom, IsLaid}
+use Rattle.wkb_features.specs.Values.{HasValue}
+use Rattle.convert_command.specs.Inputs.{Input, IsAccepted, IsInput}
+use Rattle.convert_command.specs.Conversions.{WritesConversion, WritesConversionPart, IsConvertible, RefusesConversion}
+use Rattle.make_command.specs.Made.{WritesMade, WritesMadePart}
+use Rattle.command_words.specs.declared.format.Format.{Format}
+use Rattle.command_words.specs.declared.format.Format.TheVariants as f
 use Rattle.command_words.specs.Texts.{Tells, refusal_text, source_text, sink_text, memory_text, too_large_text}
-use Rattle.command_words.specs.Requests.{Request, query, check, pack, report, serve}
+use Rattle.command_words.specs.Requests.{Request, query, check, pack, convert, make, report, serve}
 use Rattle.fgb_tool.specs.Texts.{accepted_text}
 
 -- what a query of this box that writes such a text does, by the status that it ends with
@@ -131,10 +139,62 @@ pub record Repacks (node_size : ℕ) (s s' : Source) (o o' e e' : Sink) (status 
       → IsTooLarge (header_in image) pieces node_size → (Rose s.faults s'.faults → ⊥) → (Rose o.faults o'.faults → ⊥) → (status ≡ 6) ⊎ (status ≡ 5))
   pub broken_done : IfTold s (λ image. (IsValid image → ⊥) → (Rose s.faults s'.faults → ⊥) → (Rose o.faults o'.faults → ⊥) → (status ≡ 1) ⊎ (status ≡ 5))
 
+-- what a conversion from the one form to the other does, by the status that it ends with
+pub record Converts (from to : Format) (s s' : Source) (o o' e e' : Sink) (status : ℕ) : Type 0 where
+  -- 0: it is a file of the one form, and its conversion was written, which as a FlatGeobuf file is valid
+  pub done : status ≡ 0 → IfTold s (λ image. IsAccepted from image × ((input : Input) → IsInput from image input → WritesConversion to input o o'))
+  pub laid : status ≡ 0 → to ≡ f.Fgb → IfTold s (λ image. (input : Input) → IsInput from image input → IsLaid input.header input.features)
+  pub quiet : status ≡ 0 → e' ≡ e
+  -- 1: the printed rule is broken at the printed place, or the first feature without a value stands there, and nothing was
+  -- written
+  pub refused : status ≡ 1 → (o' ≡ o) × ((broken : Broken) × Tells e e' (refusal_text broken) × IfTold s (λ image. RefusesConversion from to image broken))
+  -- 3, 4 and 5: the source failed, the sink failed, or there was no memory
+  pub source_failed : status ≡ 3 → Rose s.faults s'.faults × Tells e e' source_text
+  pub sink_failed : status ≡ 4 → Rose o.faults o'.faults × Tells e e' sink_text
+  pub memory : status ≡ 5 → Tells e e' memory_text
+  -- 6: a file of the one form has no room as a FlatGeobuf file, and nothing was written
+  pub too_large : status ≡ 6 → (to ≡ f.Fgb) × (o' ≡ o) × (Tells e e' too_large_text × IfTold s (λ image. IsAccepted from image
+      × ((input : Input) → IsInput from image input → HasNoRoom input.header input.features)))
+  pub statuses : (status ≡ 0) ⊎ (status ≡ 1) ⊎ (status ≡ 3) ⊎ (status ≡ 4) ⊎ (status ≡ 5) ⊎ (status ≡ 6)
+  -- whatever the status, of a file of the one form a front of its conversion was written, or nothing
+  pub part : IfTold s (λ image. (input : Input) → IsInput from image input → WritesConversionPart to input o o')
+  -- where that has no room, or a feature has no value, nothing was written, and the status is not 0; where it is no file of
+  -- the one form, neither
+  pub large_none : IfTold s (λ image. (input : Input) → IsInput from image input → to ≡ f.Fgb → HasNoRoom input.header input.features → (o' ≡ o) × (status ≢ 0))
+  pub valueless_none : IfTold s (λ image. (input : Input) → IsInput from image input → to ≡ f.Wkb → (AllByRecursion HasValue input.features → ⊥)
+      → (o' ≡ o) × (status ≢ 0))
+  pub broken_none : IfTold s (λ image. (IsAccepted from image → ⊥) → (o' ≡ o) × (status ≢ 0))
+  -- where no count rose: a file of the one form is converted, or has no room, or is refused for a feature without a value,
+  -- another is refused, or there was no memory
+  pub valid_done : IfTold s (λ image. (input : Input) → IsInput from image input → IsConvertible to input
+      → (Rose s.faults s'.faults → ⊥) → (Rose o.faults o'.faults → ⊥) → (status ≡ 0) ⊎ (status ≡ 5))
+  pub large_done : IfTold s (λ image. (input : Input) → IsInput from image input → to ≡ f.Fgb → HasNoRoom input.header input.features
+      → (Rose s.faults s'.faults → ⊥) → (Rose o.faults o'.faults → ⊥) → (status ≡ 6) ⊎ (status ≡ 5))
+  pub valueless_done : IfTold s (λ image. (input : Input) → IsInput from image input → to ≡ f.Wkb → (AllByRecursion HasValue input.features → ⊥)
+      → (Rose s.faults s'.faults → ⊥) → (Rose o.faults o'.faults → ⊥) → (status ≡ 1) ⊎ (status ≡ 5))
+  pub broken_done : IfTold s (λ image. (IsAccepted from image → ⊥) → (Rose s.faults s'.faults → ⊥) → (Rose o.faults o'.faults → ⊥) → (status ≡ 1) ⊎ (status ≡ 5))
+
+-- what the making of so many features from this one on does, by the status that it ends with
+pub record Makes (count start : ℕ) (s s' : Source) (o o' e e' : Sink) (status : ℕ) : Type 0 where
+  -- 0: the lines of the features that are found were written, and behind them the line of the numbers
+  pub done : status ≡ 0 → WritesMade count start o o'
+  pub quiet : status ≡ 0 → e' ≡ e
+  -- 4 and 5: the sink failed, or there was no memory
+  pub sink_failed : status ≡ 4 → Rose o.faults o'.faults × Tells e e' sink_text
+  pub memory : status ≡ 5 → Tells e e' memory_text
+  pub statuses : (status ≡ 0) ⊎ (status ≡ 4) ⊎ (status ≡ 5)
+  -- whatever the status, nothing was asked of the source, and a front of that text was written
+  pub untouched : s' ≡ s
+  pub part : WritesMadePart count start o o'
+  -- where the sink did not fail, all was written, or there was no memory
+  pub unfailed : (Rose o.faults o'.faults → ⊥) → (status ≡ 0) ⊎ (status ≡ 5)
+
 -- what was asked for is done
 abbrev pub Does : Request → Source → Source → Sink → Sink → Sink → Sink → ℕ → Type 0
 Does (query input box output) s s' o o' e e' status = Runs box output s s' o o' e e' status
 Does (check input) s s' o o' e e' status = Checks s s' o o' e e' status
 Does (pack input node_size) s s' o o' e e' status = Repacks node_size s s' o o' e e' status
+Does (convert input from to) s s' o o' e e' status = Converts from to s s' o o' e e' status
+Does (make count start) s s' o o' e e' status = Makes count start s s' o o' e e' status
 Does (report input box) s s' o o' e e' status = ⊥
 Does (serve name port connections) s s' o o' e e' status = ⊥

@@ -1,7 +1,7 @@
 -- The table of the rules: the name and the number of each.
 use Rattle.std.specs.Prelude.{ℕ, List, codes}
 use Rattle.flat_layout.specs.declared.Rule.{Rule}
-use Rattle.flat_layout.specs.declared.Rule.TheVariants.{Indexed, FileSize, Short, Magic, HeaderSize, Offset, Vtable, Field, Vector, Zero, Utf8, Required, Weight, Kind, NodeSize, ColumnType, ColumnCount, IndexPastEnd, NodeBox, ChildOffset, ParentBox, LeafOffset, LeafBox, LeafPastEnd, LeafOrder, FeaturePastEnd, FeatureSize, FeatureCount, Depth, PairCount, PointCount, Ends, Ordinates, NotFinite, PropColumn, PropEnd, WkbSize, WkbEnd, WkbOrder, WkbType, WkbMember, WkbDimension, WkbDepth, WkbRest, NoWkb}
+use Rattle.flat_layout.specs.declared.Rule.TheVariants.{Indexed, FileSize, Short, Magic, HeaderSize, Offset, Vtable, Field, Vector, Zero, Utf8, Required, Weight, Kind, NodeSize, ColumnType, ColumnCount, IndexPastEnd, NodeBox, ChildOffset, ParentBox, LeafOffset, LeafBox, LeafPastEnd, LeafOrder, FeaturePastEnd, FeatureSize, FeatureCount, Depth, PairCount, PointCount, Ends, Ordinates, NotFinite, PropColumn, PropEnd, WkbSize, WkbEnd, WkbOrder, WkbType, WkbMember, WkbDimension, WkbDepth, WkbRest, NoWkb, WhereColumn, WhereType, WhereValue, NoRow, TableSize, TableHead, TableRow, TableValue, TableWkb}
 
 -- the name that a message prints
 abbrev pub name_of : Rule → List ℕ
@@ -50,6 +50,15 @@ name_of WkbDimension = codes "WkbDimension"
 name_of WkbDepth = codes "WkbDepth"
 name_of WkbRest = codes "WkbRest"
 name_of NoWkb = codes "NoWkb"
+name_of WhereColumn = codes "WhereColumn"
+name_of WhereType = codes "WhereType"
+name_of WhereValue = codes "WhereValue"
+name_of NoRow = codes "NoRow"
+name_of TableSize = codes "TableSize"
+name_of TableHead = codes "TableHead"
+name_of TableRow = codes "TableRow"
+name_of TableValue = codes "TableValue"
+name_of TableWkb = codes "TableWkb"
 
 -- the place in the order of the rules
 abbrev pub number_of : Rule → ℕ
@@ -98,3 +107,12 @@ number_of WkbDimension = 41
 number_of WkbDepth = 42
 number_of WkbRest = 43
 number_of NoWkb = 44
+number_of WhereColumn = 45
+number_of WhereType = 46
+number_of WhereValue = 47
+number_of NoRow = 48
+number_of TableSize = 49
+number_of TableHead = 50
+number_of TableRow = 51
+number_of TableValue = 52
+number_of TableWkb = 53

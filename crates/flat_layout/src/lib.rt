@@ -110,6 +110,24 @@ pub enum Rule {
     WkbRest,
     /// A shape has no WKB of the profile, or a feature to be written as WKB has no geometry.
     NoWkb,
+    /// The header has no column of the name of a condition.
+    WhereColumn,
+    /// The column of a condition has a type that is not compared.
+    WhereType,
+    /// The value of a condition is not of its column's kind.
+    WhereValue,
+    /// A feature has own columns, a column number twice, or a geometry without WKB, and so no row of a table.
+    NoRow,
+    /// A table has more than 268,435,456 bytes.
+    TableSize,
+    /// A table has no head of a geometry and named, typed columns.
+    TableHead,
+    /// A record of a table has another number of fields than the head.
+    TableRow,
+    /// A field of a table is not of the form of its column's type.
+    TableValue,
+    /// The geometry of a record is not the digits of an EWKB value.
+    TableWkb,
 }
 
 impl Rule {
@@ -163,10 +181,19 @@ impl Rule {
             Rule::WkbDepth => "WkbDepth",
             Rule::WkbRest => "WkbRest",
             Rule::NoWkb => "NoWkb",
+            Rule::WhereColumn => "WhereColumn",
+            Rule::WhereType => "WhereType",
+            Rule::WhereValue => "WhereValue",
+            Rule::NoRow => "NoRow",
+            Rule::TableSize => "TableSize",
+            Rule::TableHead => "TableHead",
+            Rule::TableRow => "TableRow",
+            Rule::TableValue => "TableValue",
+            Rule::TableWkb => "TableWkb",
         }
     }
 
-    /// The rule's number, 0 to 44.
+    /// The rule's number, 0 to 53.
     pub fn number(self) -> u16
         ensures { result ≡ number_of self }
     {

@@ -10,6 +10,8 @@ fn names_and_numbers(rt: HostRuntime) {
         (Rule::Vector, "Vector", 8),
         (Rule::FeatureCount, "FeatureCount", 27),
         (Rule::NoWkb, "NoWkb", 44),
+        (Rule::WhereColumn, "WhereColumn", 45),
+        (Rule::TableWkb, "TableWkb", 53),
     ];
     for (rule, name, number) in rows {
         assert_eq!(rt; rule.name(), name);

@@ -12,7 +12,7 @@ use Rattle.found_features.specs.Entries.{found}
 use Rattle.found_features.proofs.Stopping.{on_ok_map}
 use Rattle.box_query.specs.Needed.{needed}
 use Rattle.fgb_reports.specs.States.{State}
-use Rattle.command_words.specs.Requests.{Request, query, check, pack, report, serve}
+use Rattle.command_words.specs.Requests.{Request, query, check, pack, convert, make, report, serve}
 use Rattle.command_words.specs.Statuses.{IsStatus, IfRefused}
 use Rattle.command_words.specs.declared.stop.Stop.{Stop}
 use Rattle.command_words.specs.declared.stop.Stop.TheVariants.{Refused, SourceFailed, SinkFailed, Memory, TooLarge}
@@ -98,6 +98,8 @@ abbrev pub box_asked : Bounds → Request → Bounds
 box_asked other (query input box output) = other
 box_asked other (check input) = other
 box_asked other (pack input node_size) = other
+box_asked other (convert input from to) = other
+box_asked other (make count start) = other
 box_asked other (report input box) = box
 box_asked other (serve name port connections) = other
 

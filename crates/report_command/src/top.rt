@@ -55,7 +55,8 @@ fn read_report<'a>(words: &[&'a str]) -> Option<Reporting<'a>>
 {
     match read_words(words)? {
         Asked::Report(reporting) => Some(reporting),
-        Asked::Query(_) | Asked::Check(_) | Asked::Pack(_) | Asked::Serve(_) => None,
+        Asked::Query(_) | Asked::Check(_) | Asked::Pack(_) => None,
+        Asked::Convert(_) | Asked::Make(_) | Asked::Serve(_) => None,
     }
 }
 

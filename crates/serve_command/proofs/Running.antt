@@ -2,7 +2,7 @@
 use Rattle.std.proofs.Common.{◌≡◌, ◌≢◌, ◌⊎◌, inl, inr, ℕ, List, Result, Ok, Err, IsErrOf, refl, subst, arith}
 use Rattle.fgb_outside.specs.Sink.{Sink}
 use Rattle.byte_links.specs.Accept.{AcceptState}
-use Rattle.command_words.specs.Requests.{Asks, IsServe, IsUsageOf, check, pack, query, report, serve}
+use Rattle.command_words.specs.Requests.{Asks, IsServe, IsUsageOf, check, convert, make, pack, query, report, serve}
 use Rattle.command_words.specs.Statuses.{IfRefused, IsStatus}
 use Rattle.command_words.specs.declared.stop.Stop.{Stop}
 use Rattle.command_words.specs.declared.stop.Stop.TheVariants.{Refused, SourceFailed, SinkFailed, Memory, TooLarge}
@@ -14,6 +14,8 @@ pub not_asked : {words : List (List ℕ)} → ((name : List ℕ) (port connectio
 not_asked none (query input bounds output) asks is = is
 not_asked none (check input) asks is = is
 not_asked none (pack input node_size) asks is = is
+not_asked none (convert input from to) asks is = is
+not_asked none (make count start) asks is = is
 not_asked none (report input bounds) asks is = is
 not_asked none (serve name port connections) asks is = none name port connections asks
 

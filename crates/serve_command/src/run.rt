@@ -57,6 +57,8 @@ fn serving_of<'a>(words: &[&'a str]) -> Option<Serving<'a>>
         Asked::Query(_) => None,
         Asked::Check(_) => None,
         Asked::Pack(_) => None,
+        Asked::Convert(_) => None,
+        Asked::Make(_) => None,
         Asked::Report(_) => None,
     }
 }

@@ -1,5 +1,5 @@
-//! Rows that the program is held to, on files without an index: what is asked by words, what queries and checks write, what is
-//! refused and where, and what happens where a source or a sink fails.
+//! Rows that the program is held to, on files without an index: what is asked by words, what queries, checks, conversions
+//! and the making of features write, what is refused and where, and what happens where a source or a sink fails.
 //!
 //! The library has the files of these rows, by hand, and runs of the tool over them; the rows are its tests.
 #![tactic(auto)]

@@ -1,8 +1,10 @@
 use super::*;
 
 mod checks;
+mod conversions;
 mod faults;
 mod fronts;
+mod makings;
 mod outputs;
 mod queries;
 mod refusals;

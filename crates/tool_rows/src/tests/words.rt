@@ -54,6 +54,23 @@ fn other_words_are_refused(rt: HostRuntime) -> Result<(), Fail> {
 }
 
 #[test]
+fn a_conversion_has_two_forms(rt: HostRuntime) -> Result<(), Fail> {
+    is_usage(&rt, &["convert", "three.fgb", "--to=wkb"])?;
+    is_usage(&rt, &["convert", "three.fgb", "--from=fgb", "--to=kml"])
+}
+
+#[test]
+fn a_making_has_two_numbers_and_no_file(rt: HostRuntime) -> Result<(), Fail> {
+    is_usage(&rt, &["make", "--count=1"])?;
+    is_usage(&rt, &["make", "--start=0"])?;
+    is_usage(&rt, &["make", "three.fgb", "--count=1", "--start=0"])?;
+    is_usage(&rt, &["make", "--count=1", "--count=1", "--start=0"])?;
+    is_usage(&rt, &["make", "--count=1000001", "--start=0"])?;
+    is_usage(&rt, &["make", "--count=1", "--start=1000000001"])?;
+    is_usage(&rt, &["make", "--count=-1", "--start=0"])
+}
+
+#[test]
 fn other_calls_are_refused(rt: HostRuntime) -> Result<(), Fail> {
     let alloc = rt.alloc();
     let mut file = MemorySource::new(alloc, &EMPTY, &[])?;
@@ -84,4 +101,13 @@ fn commands_are_planned(rt: HostRuntime) {
     assert_eq!(rt; plan(&CHECK), planned(Command::Check));
     let packed = ["pack", "--node=16", "three.fgb"];
     assert_eq!(rt; plan(&packed), planned(Command::Pack));
+    let converted = ["convert", "--to=wkb", "--from=fgb", "three.fgb"];
+    assert_eq!(rt; plan(&converted), planned(Command::Convert));
+    let made = Plan {
+        command: Command::Make,
+        target: Target::Nothing,
+        port: 0,
+    };
+    let largest = ["make", "--count=1000000", "--start=1000000000"];
+    assert_eq!(rt; plan(&largest), Some(made));
 }

@@ -1,4 +1,4 @@
-use Rattle.std.proofs.Common.{◌≡◌, ◌∙◌, ◌++◌, codes, true, sym, ap, subst}
+use Rattle.std.proofs.Common.{◌∙◌, codes, true, sym, ap, subst}
 use Rattle.std.proofs.lemmas.Str.Pattern.{starts_text}
 use Rattle.command_words.specs.Words.{SpellsServed, file_served}
 use Rattle.command_words.proofs.Hosts.{Hosts, hosts, stripped}

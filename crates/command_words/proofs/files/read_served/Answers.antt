@@ -1,5 +1,5 @@
-use Rattle.std.proofs.Common.{◌≡◌, ◌∙◌, ◌++◌, ℕ, List, sym, ap, subst, Some, None}
-use Rattle.command_words.specs.Words.{SpellsServed, SpellsWithin}
+use Rattle.std.proofs.Common.{◌∙◌, ◌++◌, sym, ap, subst, Some, None}
+use Rattle.command_words.specs.Words.{SpellsWithin}
 use Rattle.command_words.proofs.Hosts.{splits, stripped, path_passes}
 use Rattle.command_words.proofs.files.read_served.Goals as goal
 

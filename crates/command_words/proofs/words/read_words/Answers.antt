@@ -1,6 +1,6 @@
 use Rattle.std.proofs.Common.{arith}
-use Rattle.command_words.specs.declared.command.Command.TheVariants.{Query, Check, Pack, Report, Serve}
-use Rattle.command_words.proofs.Wording.{headed, query_asked, check_asked, pack_asked, report_asked, serve_asked}
+use Rattle.command_words.specs.declared.command.Command.TheVariants.{Query, Check, Pack, Convert, Make, Report, Serve}
+use Rattle.command_words.proofs.Wording.{headed, query_asked, check_asked, pack_asked, convert_asked, make_asked, report_asked, serve_asked}
 use Rattle.command_words.proofs.words.read_words.Goals as goal
 
 pub returns-in_err-read_query-in-Query-clause-only : goal.returns-in_err-read_query-in-Query-clause-only
@@ -34,6 +34,28 @@ pub returns-in_ok-read_pack-in-Pack-clause-only : goal.returns-in_ok-read_pack-i
 returns-in_ok-read_pack-in-Pack-clause-only c = λ request asks.
     let asked = pack_asked _ request (headed c.args.words.now _ (omega arith) _ Pack request c.in_ok-named.ensures.some c.in-Pack.is asks) in
     let same = c.in_ok-read_pack-in-Pack.ensures.only asked.0 asked.1 asked.3 in
+    cc
+
+pub returns-in_err-read_convert-in-Convert-clause-only : goal.returns-in_err-read_convert-in-Convert-clause-only
+returns-in_err-read_convert-in-Convert-clause-only c = λ request asks.
+    let asked = convert_asked _ request (headed c.args.words.now _ (omega arith) _ Convert request c.in_ok-named.ensures.some c.in-Convert.is asks) in
+    absurd (c.in_err-read_convert-in-Convert.ensures.only asked.0 asked.1 asked.2 asked.4)
+
+pub returns-in_ok-read_convert-in-Convert-clause-only : goal.returns-in_ok-read_convert-in-Convert-clause-only
+returns-in_ok-read_convert-in-Convert-clause-only c = λ request asks.
+    let asked = convert_asked _ request (headed c.args.words.now _ (omega arith) _ Convert request c.in_ok-named.ensures.some c.in-Convert.is asks) in
+    let same = c.in_ok-read_convert-in-Convert.ensures.only asked.0 asked.1 asked.2 asked.4 in
+    cc
+
+pub returns-in_err-read_make-in-Make-clause-only : goal.returns-in_err-read_make-in-Make-clause-only
+returns-in_err-read_make-in-Make-clause-only c = λ request asks.
+    let asked = make_asked _ request (headed c.args.words.now _ (omega arith) _ Make request c.in_ok-named.ensures.some c.in-Make.is asks) in
+    absurd (c.in_err-read_make-in-Make.ensures.only asked.0 asked.1 asked.3)
+
+pub returns-in_ok-read_make-in-Make-clause-only : goal.returns-in_ok-read_make-in-Make-clause-only
+returns-in_ok-read_make-in-Make-clause-only c = λ request asks.
+    let asked = make_asked _ request (headed c.args.words.now _ (omega arith) _ Make request c.in_ok-named.ensures.some c.in-Make.is asks) in
+    let same = c.in_ok-read_make-in-Make.ensures.only asked.0 asked.1 asked.3 in
     cc
 
 pub returns-in_err-read_report-in-Report-clause-only : goal.returns-in_err-read_report-in-Report-clause-only

@@ -23,6 +23,14 @@ pub returns-in-Pack-clause-only : goal.returns-in-Pack-clause-only
 returns-in-Pack-clause-only c = λ name port connections asks.
     let e = sym (ap request_of c.in-Pack.is) ∙ c.in_ok-serving.ensures.only (serve name port connections) asks in cc
 
+pub returns-in-Convert-clause-only : goal.returns-in-Convert-clause-only
+returns-in-Convert-clause-only c = λ name port connections asks.
+    let e = sym (ap request_of c.in-Convert.is) ∙ c.in_ok-serving.ensures.only (serve name port connections) asks in cc
+
+pub returns-in-Make-clause-only : goal.returns-in-Make-clause-only
+returns-in-Make-clause-only c = λ name port connections asks.
+    let e = sym (ap request_of c.in-Make.is) ∙ c.in_ok-serving.ensures.only (serve name port connections) asks in cc
+
 pub returns-in-Report-clause-only : goal.returns-in-Report-clause-only
 returns-in-Report-clause-only c = λ name port connections asks.
     let e = sym (ap request_of c.in-Report.is) ∙ c.in_ok-serving.ensures.only (serve name port connections) asks in cc

@@ -1,0 +1,4 @@
+pub mod Hits
+pub mod Runs
+pub mod Sought
+pub mod Following

@@ -1,0 +1,4 @@
+pub mod Causes
+pub mod Conversions
+pub mod Inputs
+pub mod Steps

@@ -1,0 +1,5 @@
+mod Firsts
+mod Numerals
+mod Splitting
+mod Tables
+mod Refusing

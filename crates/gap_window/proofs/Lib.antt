@@ -1,0 +1,4 @@
+pub mod Bridges
+pub mod Near
+pub mod Reaching
+pub mod Within

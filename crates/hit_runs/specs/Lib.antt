@@ -1,0 +1,4 @@
+pub mod Leaves
+pub mod Laid
+pub mod Fetching
+pub mod Runs

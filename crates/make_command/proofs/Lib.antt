@@ -1,0 +1,5 @@
+mod Packing
+mod Refusals
+mod Requests
+mod Sizes
+mod Telling
