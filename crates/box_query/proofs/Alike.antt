@@ -1,9 +1,11 @@
 -- Boxes with equal keys meet the same boxes.
-use Rattle.std.proofs.Common.{◌≡◌, ℕ, Bool, true, false, ◌&&◌, IsTrue, refl, arith}
+use Rattle.std.proofs.Common.{◌≡◌, ℕ, Bool, true, false, ◌&&◌, List, IsTrue, refl, arith}
 use Rattle.order_keys.specs.declared.bounds.Bounds.{Bounds}
 use Rattle.order_keys.specs.Keys.{same_key, IsAtMost}
 use Rattle.order_keys.specs.Boxes.{meets, same as same_box}
 use Rattle.order_keys.proofs.Order.{at_most_is, at_most_through, meets_is}
+use Rattle.box_list.specs.Lists.{meets_any}
+use Rattle.box_query.proofs.Anyone.{any_same}
 
 each_of : (p q r s : Bool) → IsTrue (p && q && r && s) → IsTrue p × IsTrue q × IsTrue r × IsTrue s
 each_of p q r s h = grind arith
@@ -64,7 +66,10 @@ either_way true false there back = absurd (let e : false ≡ true = there refl i
 either_way false true there back = back refl
 either_way false false there back = refl
 
-pub meets_same : (a b box : Bounds) → same_box a b ≡ true → meets a box ≡ meets b box
+meets_same : (a b box : Bounds) → same_box a b ≡ true → meets a box ≡ meets b box
 meets_same a b box same =
     let is = alike_of a b same in
     either_way (meets a box) (meets b box) (meets_alike a b box is) (meets_alike b a box (alike_turned a b is))
+
+pub any_same_box : (boxes : List Bounds) (a b : Bounds) → same_box a b ≡ true → meets_any boxes a ≡ meets_any boxes b
+any_same_box boxes a b same = any_same (meets a) (meets b) (λ box. meets_same a b box same) boxes

@@ -1,6 +1,8 @@
+mod Anyone
 mod Alike
 mod Standing
 mod Rising
+mod Scanning
 mod Finding
 mod Stops
 mod Searching

@@ -5,7 +5,6 @@ use Rattle.std.specs.List.{AllByRecursion, concat, filter, range_with_len}
 use Rattle.std.proofs.lemmas.List.{append_assoc, drop_at, take_at}
 use Rattle.std.proofs.lemmas.List.Folds.{concat-append}
 use Rattle.order_keys.specs.declared.bounds.Bounds.{Bounds}
-use Rattle.order_keys.specs.Boxes.{meets}
 use Rattle.level_bounds.specs.Levels.{Shape}
 use Rattle.fgb_schema.specs.Features.{feature_of, own_box}
 use Rattle.fgb_file.specs.File.{header_in, size_at, buffer_at, IsIndex, present, first_place, leaf_in, leaf_target, node_in, box_of, IsPiece, Walks, IsFile}
@@ -14,10 +13,11 @@ use Rattle.fgb_file.proofs.Bytes.{number_at-append, number_at-drop}
 use Rattle.fgb_file.proofs.Passing.{agrees_tells}
 use Rattle.fgb_file.proofs.Walk.{all-rest, framed_all, buffer_there}
 use Rattle.fgb_file.proofs.Opening.{open_inside}
-use Rattle.tree_search.specs.Wanted.{meets_box, passes}
+use Rattle.box_list.specs.Lists.{meets_any}
+use Rattle.tree_search.specs.Wanted.{passes}
 use Rattle.found_features.specs.Entries.{Entry, entries}
 use Rattle.hit_reader.specs.Met.{entry_at}
-use Rattle.box_query.proofs.Alike.{meets_same}
+use Rattle.box_query.proofs.Alike.{any_same_box}
 
 all-front : {X : Type 0} (P : X → Type 0) (xs ys : List X) → AllByRecursion P (xs ++ ys) → AllByRecursion P xs
 all-front P [] ys all = tt
@@ -107,16 +107,16 @@ module _ (image : List ℕ) (t : Shape) (pieces : List (List ℕ)) (file : IsFil
     entry_is = entry_same _ _ refl (sym (file.leaves ws p rest split few).0) (sym buffer_is) (sym own_is)
 
     -- and has its box, by keys
-    pub leaf_meets : (box : Bounds) → passes t (node_in image) (meets_box box) 0 (length ws) ≡ meets (box_of (header_in image) p) box
-    leaf_meets box = meets_same (leaf_in image t (length ws)).bounds (box_of (header_in image) p) box (file.leaves ws p rest split few).1
+    pub leaf_meets : (boxes : List Bounds) → passes t (node_in image) (meets_any boxes) 0 (length ws) ≡ meets_any boxes (box_of (header_in image) p)
+    leaf_meets boxes = any_same_box boxes (leaf_in image t (length ws)).bounds (box_of (header_in image) p) (file.leaves ws p rest split few).1
 
   -- the features behind others that a scan finds are those of the leaves that it finds
-  module _ (box : Bounds) where
+  module _ (boxes : List Bounds) where
     abbrev test : Entry → Bool
-    test e = meets e.own box
+    test e = meets_any boxes e.own
 
     abbrev hit : ℕ → Bool
-    hit = passes t (node_in image) (meets_box box) 0
+    hit = passes t (node_in image) (meets_any boxes) 0
 
     pub found_from : (ps ws : List (List ℕ)) → pieces ≡ ws ++ ps
         → filter test (entries (header_in image) (length ws) (length (concat ws)) ps) ≡ map (entry_at image t) (filter hit (range_with_len (length ws) (length ps)))
@@ -129,4 +129,4 @@ module _ (image : List ℕ) (t : Shape) (pieces : List (List ℕ)) (file : IsFil
         let rest : filter test (entries (header_in image) (length ws + 1) (length (concat ws) + length p) ps) ≡ map (entry_at image t) (filter hit (range_with_len (length ws + 1) (length ps))) =
         subst (λ n. filter test (entries (header_in image) n (length (concat ws) + length p) ps) ≡ map (entry_at image t) (filter hit (range_with_len n (length ps)))) more
         (subst (λ o. filter test (entries (header_in image) (length (ws ++ p ∷ [])) o ps) ≡ map (entry_at image t) (filter hit (range_with_len (length (ws ++ p ∷ [])) (length ps)))) longer deep) in
-        one_more (entry_at image t) hit e (length ws) _ (range_with_len (length ws + 1) (length ps)) (test e) (entry_is ws p ps split) (sym (leaf_meets ws p ps split box)) rest
+        one_more (entry_at image t) hit e (length ws) _ (range_with_len (length ws + 1) (length ps)) (test e) (entry_is ws p ps split) (sym (leaf_meets ws p ps split boxes)) rest

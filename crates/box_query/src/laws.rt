@@ -11,12 +11,12 @@ ghost use Rattle.box_query.specs.Answers.{Answers, AnswersPart, Refuses};
 /// what is known of it at any time is a front of that; and the query is not refused. Without an index a refusal names
 /// the first unit that breaks a rule. A law, which does nothing when it is called.
 pub fn searches_are_scans()
-    ensures whole { (image : List ℕ) (index : Option Shape) (pieces : List (List ℕ)) (box : Bounds) (entries : List Entry)
-        → IsFile image index pieces → Answers image box entries → entries ≡ found (header_in image) box pieces }
-    ensures part { (image : List ℕ) (index : Option Shape) (pieces : List (List ℕ)) (box : Bounds) (entries : List Entry)
-        → IsFile image index pieces → AnswersPart image box entries → (rest : List Entry) × (entries ++ rest ≡ found (header_in image) box pieces) }
-    ensures never { (image : List ℕ) (index : Option Shape) (pieces : List (List ℕ)) (box : Bounds) (broken : Broken) (entries : List Entry)
-        → IsFile image index pieces → Refuses image box broken entries → ⊥ }
-    ensures first { (image : List ℕ) (box : Bounds) (broken : Broken) (entries : List Entry)
-        → IsUnindexed image → Refuses image box broken entries → BreaksFirst image broken }
+    ensures whole { (image : List ℕ) (index : Option Shape) (pieces : List (List ℕ)) (boxes : List Bounds) (entries : List Entry)
+        → IsFile image index pieces → Answers image boxes entries → entries ≡ found (header_in image) boxes pieces }
+    ensures part { (image : List ℕ) (index : Option Shape) (pieces : List (List ℕ)) (boxes : List Bounds) (entries : List Entry)
+        → IsFile image index pieces → AnswersPart image boxes entries → (rest : List Entry) × (entries ++ rest ≡ found (header_in image) boxes pieces) }
+    ensures never { (image : List ℕ) (index : Option Shape) (pieces : List (List ℕ)) (boxes : List Bounds) (broken : Broken) (entries : List Entry)
+        → IsFile image index pieces → Refuses image boxes broken entries → ⊥ }
+    ensures first { (image : List ℕ) (boxes : List Bounds) (broken : Broken) (entries : List Entry)
+        → IsUnindexed image → Refuses image boxes broken entries → BreaksFirst image broken }
 {}

@@ -73,8 +73,8 @@ pub headed : (words : List (Bor (List ℕ))) (d : Bor (List ℕ)) → 1 ≤ leng
 headed words d some found command request is same asks = heads (texts words) _ (get_or words 0 d).now command request (parts words d some) (is ∙ ap command_name same) asks
 
 module _ (rest : List (List ℕ)) where
-  pub query_asked : (request : Request) → Heads rest Query request → (input : Input) × (bounds : Bounds) × (output : Output) × (query input bounds output ≡ request) × AsksQuery rest input bounds output
-  query_asked (query input bounds output) head = (input, bounds, output, refl, head.behind)
+  pub query_asked : (request : Request) → Heads rest Query request → (input : Input) × (boxes : List Bounds) × (gap : ℕ) × (output : Output) × (query input boxes gap output ≡ request) × AsksQuery rest input boxes gap output
+  query_asked (query input boxes gap output) head = (input, boxes, gap, output, refl, head.behind)
   query_asked other head = absurd (cc)
 
   pub check_asked : (request : Request) → Heads rest Check request → (input : Input) × (check input ≡ request) × AsksCheck rest input
@@ -93,8 +93,8 @@ module _ (rest : List (List ℕ)) where
   make_asked (make count start) head = (count, start, refl, head.behind)
   make_asked other head = absurd (cc)
 
-  pub report_asked : (request : Request) → Heads rest Report request → (input : Input) × (bounds : Bounds) × (report input bounds ≡ request) × AsksReport rest input bounds
-  report_asked (report input bounds) head = (input, bounds, refl, head.behind)
+  pub report_asked : (request : Request) → Heads rest Report request → (input : Input) × (boxes : List Bounds) × (gap : ℕ) × (report input boxes gap ≡ request) × AsksReport rest input boxes gap
+  report_asked (report input boxes gap) head = (input, boxes, gap, refl, head.behind)
   report_asked other head = absurd (cc)
 
   pub serve_asked : (request : Request) → Heads rest Serve request → (name : List ℕ) × (port : ℕ) × (connections : ℕ) × (serve name port connections ≡ request) × AsksServe rest name port connections

@@ -16,12 +16,12 @@ input_in (Name name) = file_named name.now
 input_in (Http port path) = file_served port path.now
 
 abbrev pub request_of : Asked → Request
-request_of (Query q) = query (input_in q.file) q.bounds q.output
+request_of (Query q) = query (input_in q.file) q.boxes q.gap q.output
 request_of (Check file) = check (input_in file)
 request_of (Pack packing) = pack (input_in packing.file) packing.node_size
 request_of (Convert converting) = convert (input_in converting.file) converting.from converting.to
 request_of (Make making) = make making.count making.start
-request_of (Report reporting) = report (input_in reporting.file) reporting.bounds
+request_of (Report reporting) = report (input_in reporting.file) reporting.boxes reporting.gap
 request_of (Serve serving) = serve serving.file.now serving.port serving.connections
 
 -- the text, where there is one

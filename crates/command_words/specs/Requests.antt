@@ -9,29 +9,29 @@ use Rattle.command_words.specs.declared.command.Command.TheVariants as a
 use Rattle.command_words.specs.declared.command.Target.{Target}
 use Rattle.command_words.specs.declared.command.Target.TheVariants.{Nothing, File, Http}
 use Rattle.command_words.specs.declared.format.Format.{Format}
-use Rattle.command_words.specs.Words.{Input, file_named, file_served, is_known, values, GivesFile, GivesNumber, GivesBox, GivesFormat, GivesNoFile, IsOutput}
+use Rattle.command_words.specs.Words.{Input, file_named, file_served, is_known, values, GivesFile, GivesNumber, GivesBoxes, GivesFormat, GivesNoFile, IsGap, IsOutput}
 
--- what can be asked: for the features of this file that meet this box, in this form; whether this file breaks a rule; for
--- the packing of this file with nodes of so many children; for the conversion of this file from this form to that one; to
--- make so many features from this one on and query them; for reports on the features of this file that meet this box; or to
--- serve the file of this name at this port for so many connections
+-- what can be asked: for the features of this file that meet one of these boxes, with this gap, in this form; whether this
+-- file breaks a rule; for the packing of this file with nodes of so many children; for the conversion of this file from this
+-- form to that one; to make so many features from this one on and query them; for reports on the features of this file that
+-- meet one of these boxes, with this gap; or to serve the file of this name at this port for so many connections
 pub data Request : Type 0 where
-  query : Input → Bounds → Output → Request
+  query : Input → List Bounds → ℕ → Output → Request
   check : Input → Request
   pack : Input → ℕ → Request
   convert : Input → Format → Format → Request
   make : ℕ → ℕ → Request
-  report : Input → Bounds → Request
+  report : Input → List Bounds → ℕ → Request
   serve : List ℕ → ℕ → ℕ → Request
 
 -- the command of a request
 abbrev pub command_of : Request → Command
-command_of (query input bounds output) = a.Query
+command_of (query input boxes gap output) = a.Query
 command_of (check input) = a.Check
 command_of (pack input node_size) = a.Pack
 command_of (convert input from to) = a.Convert
 command_of (make count start) = a.Make
-command_of (report input bounds) = a.Report
+command_of (report input boxes gap) = a.Report
 command_of (serve name port connections) = a.Serve
 
 -- the word of a command
@@ -48,11 +48,12 @@ command_name a.Serve = codes "serve"
 abbrev pub AreKnown : List (List ℕ) → List (List ℕ) → Type 0
 AreKnown names words = IsTrue (list_all (is_known names) words)
 
--- `FILE --box=BOX`, with `--out=lines`, `--out=fgb`, `--out=wkb` or none of them
-pub record AsksQuery (words : List (List ℕ)) (input : Input) (bounds : Bounds) (output : Output) : Type 0 where
-  pub known : AreKnown (codes "--box=" ∷ codes "--out=" ∷ []) words
+-- `FILE --box=BOXES`, with `--gap=G` or without it, and with `--out=lines`, `--out=fgb`, `--out=wkb` or none of them
+pub record AsksQuery (words : List (List ℕ)) (input : Input) (boxes : List Bounds) (gap : ℕ) (output : Output) : Type 0 where
+  pub known : AreKnown (codes "--box=" ∷ codes "--gap=" ∷ codes "--out=" ∷ []) words
   pub file : GivesFile words input
-  pub box : GivesBox words bounds
+  pub sought : GivesBoxes words boxes
+  pub bridged : IsGap (values (codes "--gap=") words) gap
   pub chosen : IsOutput (values (codes "--out=") words) output
 
 -- `FILE`
@@ -80,11 +81,12 @@ pub record AsksMake (words : List (List ℕ)) (count start : ℕ) : Type 0 where
   pub so_many : GivesNumber words (codes "--count=") 0 1000000 count
   pub from_on : GivesNumber words (codes "--start=") 0 1000000000 start
 
--- `FILE --box=BOX`
-pub record AsksReport (words : List (List ℕ)) (input : Input) (bounds : Bounds) : Type 0 where
-  pub known : AreKnown (codes "--box=" ∷ []) words
+-- `FILE --box=BOXES`, with `--gap=G` or without it
+pub record AsksReport (words : List (List ℕ)) (input : Input) (boxes : List Bounds) (gap : ℕ) : Type 0 where
+  pub known : AreKnown (codes "--box=" ∷ codes "--gap=" ∷ []) words
   pub file : GivesFile words input
-  pub box : GivesBox words bounds
+  pub sought : GivesBoxes words boxes
+  pub bridged : IsGap (values (codes "--gap=") words) gap
 
 -- `FILE --port=P --connections=N`, with a port from 1 to 65535 and a number from 1 to 1000000, and a file word that is a name
 pub record AsksServe (words : List (List ℕ)) (name : List ℕ) (port connections : ℕ) : Type 0 where
@@ -95,12 +97,12 @@ pub record AsksServe (words : List (List ℕ)) (name : List ℕ) (port connectio
 
 -- the words behind the command ask for this, in any order
 abbrev pub AsksBehind : List (List ℕ) → Request → Type 0
-AsksBehind words (query input bounds output) = AsksQuery words input bounds output
+AsksBehind words (query input boxes gap output) = AsksQuery words input boxes gap output
 AsksBehind words (check input) = AsksCheck words input
 AsksBehind words (pack input node_size) = AsksPack words input node_size
 AsksBehind words (convert input from to) = AsksConvert words input from to
 AsksBehind words (make count start) = AsksMake words count start
-AsksBehind words (report input bounds) = AsksReport words input bounds
+AsksBehind words (report input boxes gap) = AsksReport words input boxes gap
 AsksBehind words (serve name port connections) = AsksServe words name port connections
 
 -- the words ask for this
@@ -119,50 +121,60 @@ IsUsageOf IsDone words = (request : Request) → Asks words request → IsDone r
 
 -- the requests of each call
 abbrev pub IsRun : Request → Type 0
-IsRun (query input bounds output) = ⊤
+IsRun (query input boxes gap output) = ⊤
 IsRun (check input) = ⊤
 IsRun (pack input node_size) = ⊤
 IsRun (convert input from to) = ⊤
 IsRun (make count start) = ⊤
-IsRun (report input bounds) = ⊥
+IsRun (report input boxes gap) = ⊥
 IsRun (serve name port connections) = ⊥
 
 abbrev pub IsReport : Request → Type 0
-IsReport (query input bounds output) = ⊥
+IsReport (query input boxes gap output) = ⊥
 IsReport (check input) = ⊥
 IsReport (pack input node_size) = ⊥
 IsReport (convert input from to) = ⊥
 IsReport (make count start) = ⊥
-IsReport (report input bounds) = ⊤
+IsReport (report input boxes gap) = ⊤
 IsReport (serve name port connections) = ⊥
 
 abbrev pub IsServe : Request → Type 0
-IsServe (query input bounds output) = ⊥
+IsServe (query input boxes gap output) = ⊥
 IsServe (check input) = ⊥
 IsServe (pack input node_size) = ⊥
 IsServe (convert input from to) = ⊥
 IsServe (make count start) = ⊥
-IsServe (report input bounds) = ⊥
+IsServe (report input boxes gap) = ⊥
 IsServe (serve name port connections) = ⊤
 
 -- what a request reads, if it reads a file, and the port that it serves at, or 0
 abbrev pub input_of : Request → Option Input
-input_of (query input bounds output) = Some input
+input_of (query input boxes gap output) = Some input
 input_of (check input) = Some input
 input_of (pack input node_size) = Some input
 input_of (convert input from to) = Some input
 input_of (make count start) = None
-input_of (report input bounds) = Some input
+input_of (report input boxes gap) = Some input
 input_of (serve name port connections) = Some (file_named name)
 
 abbrev pub port_of : Request → ℕ
-port_of (query input bounds output) = 0
+port_of (query input boxes gap output) = 0
 port_of (check input) = 0
 port_of (pack input node_size) = 0
 port_of (convert input from to) = 0
 port_of (make count start) = 0
-port_of (report input bounds) = 0
+port_of (report input boxes gap) = 0
 port_of (serve name port connections) = port
+
+-- the gap of a request, or 0
+abbrev pub gap_of : Request → ℕ
+gap_of (query input boxes gap output) = gap
+gap_of (check input) = 0
+gap_of (pack input node_size) = 0
+gap_of (convert input from to) = 0
+gap_of (make count start) = 0
+gap_of (report input boxes gap) = gap
+gap_of (serve name port connections) = 0
 
 -- what a target is
 abbrev pub input_at : Target → Option Input

@@ -6,7 +6,7 @@ use Rattle.std.specs.Str.Parse.{digits_value}
 use Rattle.std.specs.Borrow.{Bor}
 use Rattle.range_client.specs.Requests.{IsPath}
 use Rattle.order_keys.specs.declared.bounds.Bounds.{Bounds}
-use Rattle.order_keys.specs.Words.{SpellsBox}
+use Rattle.box_list.specs.Lists.{SpellsBoxes}
 use Rattle.text_query.specs.declared.output.Output.{Output}
 use Rattle.text_query.specs.declared.output.Output.TheVariants.{Lines, Fgb, Wkb}
 use Rattle.command_words.specs.declared.format.Format.{Format}
@@ -84,11 +84,17 @@ pub record GivesNumber (words : List (List ℕ)) (name : List ℕ) (least most n
   pub once : values name words ≡ digits ∷ []
   pub within : SpellsWithin digits least most number
 
--- `--box=MINX,MINY,MAXX,MAXY` is given once
-pub record GivesBox (words : List (List ℕ)) (bounds : Bounds) : Type 0 where
-  pub box : List ℕ
-  pub once : values (codes "--box=") words ≡ box ∷ []
-  pub spelled : SpellsBox box bounds
+-- `--box=BOXES` is given once: one to eight boxes as `MINX,MINY,MAXX,MAXY`, with a `+` between two
+pub record GivesBoxes (words : List (List ℕ)) (boxes : List Bounds) : Type 0 where
+  pub text : List ℕ
+  pub once : values (codes "--box=") words ≡ text ∷ []
+  pub few : length boxes ≤ 8
+  pub spelled : SpellsBoxes text boxes
+
+-- a gap from 0 to 1048576 is given once, or it is 0, and none is given
+pub data IsGap (given : List (List ℕ)) (gap : ℕ) : Type 0 where
+  told : (digits : List ℕ) → given ≡ digits ∷ [] → SpellsWithin digits 0 1048576 gap → IsGap given gap
+  untold : given ≡ [] → gap ≡ 0 → IsGap given gap
 
 -- the name of a form
 abbrev pub format_name : Format → List ℕ

@@ -5,7 +5,7 @@ ghost use Rattle.command_words.specs.Requests.{input_at};
 
 use crate::command::Target;
 use crate::format::Format;
-use order_keys::Bounds;
+use box_list::Boxes;
 use text_query::Output;
 
 /// What the file word names.
@@ -29,11 +29,13 @@ impl<'a> FileWord<'a> {
     }
 }
 
-/// A query of a file: which features are sought, and what is written of them.
-#[derive(Clone, Copy, Debug, PartialEq, Eq)]
+/// A query of a file: which features are sought, how long a hole must be not to be asked for, at most 1,048,576 bytes, and
+/// what is written of the features.
+#[derive(Drop)]
 pub struct Query<'a> {
     pub file: FileWord<'a>,
-    pub bounds: Bounds,
+    pub boxes: Boxes,
+    pub gap: u32,
     pub output: Output,
 }
 
@@ -59,11 +61,12 @@ pub struct Making {
     pub start: u64,
 }
 
-/// Reports on a file: which features are sought.
-#[derive(Clone, Copy, Debug, PartialEq, Eq)]
+/// Reports on a file: which features are sought, and how long a hole must be not to be asked for, at most 1,048,576 bytes.
+#[derive(Drop)]
 pub struct Reporting<'a> {
     pub file: FileWord<'a>,
-    pub bounds: Bounds,
+    pub boxes: Boxes,
+    pub gap: u32,
 }
 
 /// The serving of the file of a name: at which port, which is not 0, and for how many connections, from 1 to 1,000,000.
@@ -75,9 +78,9 @@ pub struct Serving<'a> {
 }
 
 /// What words ask for.
-#[derive(Clone, Copy, Debug, PartialEq, Eq)]
+#[derive(Drop)]
 pub enum Asked<'a> {
-    /// The features of a file that meet a box.
+    /// The features of a file that meet one of several boxes.
     Query(Query<'a>),
     /// Whether a file breaks a rule.
     Check(FileWord<'a>),
@@ -87,7 +90,7 @@ pub enum Asked<'a> {
     Convert(Converting<'a>),
     /// Features that are made, packed and queried in memory.
     Make(Making),
-    /// Reports on the features of a file that meet a box.
+    /// Reports on the features of a file that meet one of several boxes.
     Report(Reporting<'a>),
     /// The serving of a file.
     Serve(Serving<'a>),

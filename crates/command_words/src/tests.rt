@@ -28,6 +28,29 @@ fn a_served_file_is_planned(rt: HostRuntime) {
 }
 
 #[test]
+fn several_boxes_and_a_gap_are_asked_for(rt: HostRuntime) {
+    let boxes = "--box=1,2,1,2+11,5,11,5";
+    match read_words(&["query", "map.fgb", boxes, "--gap=1048576"]) {
+        Some(Asked::Query(query)) => {
+            assert_eq!(rt; (query.boxes.len(), query.gap), (2, 1_048_576));
+        }
+        _ => assert!(rt; false),
+    }
+    match read_words(&["report", "map.fgb", "--box=1,2,1,2"]) {
+        Some(Asked::Report(report)) => {
+            assert_eq!(rt; (report.boxes.len(), report.gap), (1, 0));
+        }
+        _ => assert!(rt; false),
+    }
+    let nine = "--box=0,0,1,1+0,0,1,1+0,0,1,1+0,0,1,1+0,0,1,1+0,0,1,1+0,0,1,1+0,0,1,1+0,0,1,1";
+    assert_eq!(rt; plan(&["query", "map.fgb", nine]), None);
+    let wide = ["query", "map.fgb", boxes, "--gap=1048577"];
+    assert_eq!(rt; plan(&wide), None);
+    let twice = ["report", "map.fgb", boxes, "--gap=1", "--gap=1"];
+    assert_eq!(rt; plan(&twice), None);
+}
+
+#[test]
 fn a_conversion_is_planned(rt: HostRuntime) {
     let words = ["convert", "--to=wkb", "map.fgb", "--from=fgb"];
     let converting = Converting {
@@ -35,7 +58,10 @@ fn a_conversion_is_planned(rt: HostRuntime) {
         from: Format::Fgb,
         to: Format::Wkb,
     };
-    assert_eq!(rt; read_words(&words), Some(Asked::Convert(converting)));
+    match read_words(&words) {
+        Some(Asked::Convert(read)) => assert_eq!(rt; read, converting),
+        _ => assert!(rt; false),
+    }
     let converted = Plan {
         command: Command::Convert,
         target: Target::File("map.fgb"),
@@ -60,7 +86,10 @@ fn a_making_is_planned(rt: HostRuntime) {
         count: 1,
         start: 32_670,
     };
-    assert_eq!(rt; read_words(&words), Some(Asked::Make(making)));
+    match read_words(&words) {
+        Some(Asked::Make(read)) => assert_eq!(rt; read, making),
+        _ => assert!(rt; false),
+    }
     let made = Plan {
         command: Command::Make,
         target: Target::Nothing,
@@ -96,7 +125,10 @@ fn a_serving_is_planned(rt: HostRuntime) {
         port: 8080,
         connections: 1,
     };
-    assert_eq!(rt; read_words(&words), Some(Asked::Serve(serving)));
+    match read_words(&words) {
+        Some(Asked::Serve(read)) => assert_eq!(rt; read, serving),
+        _ => assert!(rt; false),
+    }
     let host = [
         "serve",
         "--connections=1",

@@ -1,10 +1,10 @@
 // The words of a command.
-ghost use Rattle.std.specs.Prelude.{◌≡◌, ℕ, List, IfSome, IfNone, IsSomeAnd};
+ghost use Rattle.std.specs.Prelude.{◌≡◌, ◌≤◌, ℕ, List, IfSome, IfNone, IsSomeAnd};
 ghost use Rattle.order_keys.specs.declared.bounds.Bounds.{Bounds as Box};
 ghost use Rattle.text_query.specs.declared.output.Output.{Output as Choice};
 ghost use Rattle.command_words.specs.Asking.{IsGiven, input_in, request_of};
-ghost use Rattle.command_words.specs.Requests.{Asks, AsksCheck, AsksConvert, AsksMake, AsksPack, AsksQuery, AsksReport, AsksServe, IsReachable, IsUsage, Request, command_of, input_at, input_of, port_of};
-ghost use Rattle.command_words.specs.Words.{GivesBox, GivesFormat, Input, IsOutput, format_name, texts, values};
+ghost use Rattle.command_words.specs.Requests.{Asks, AsksCheck, AsksConvert, AsksMake, AsksPack, AsksQuery, AsksReport, AsksServe, IsReachable, IsUsage, Request, command_of, gap_of, input_at, input_of, port_of};
+ghost use Rattle.command_words.specs.Words.{GivesBoxes, GivesFormat, Input, IsGap, IsOutput, format_name, texts, values};
 ghost use Rattle.command_words.specs.declared.format.Format.{Format as Form};
 
 use crate::asked::{Asked, Converting, FileWord, Making, Packing, Query, Reporting, Serving};
@@ -12,22 +12,24 @@ use crate::command::{Command, Plan, Target};
 use crate::files::file_of;
 use crate::format::Format;
 use crate::given::{Given, are_known, has_no_file, value_of, values_of};
-use crate::numbers::number_of;
-use order_keys::{Bounds, read_box};
+use crate::numbers::{number_of, read_within};
+use box_list::{Boxes, read_boxes};
 use text_query::Output;
 
 /// What the words, which do not hold the program's name, ask for, or None where no call accepts them. The commands
 /// are
-/// - `query FILE --box=MINX,MINY,MAXX,MAXY`, with `--out=lines`, `--out=fgb` or `--out=wkb`, or without for lines,
+/// - `query FILE --box=BOXES`, with `--out=lines`, `--out=fgb` or `--out=wkb`, or without for lines, and with `--gap=G`, or
+///   without for 0,
 /// - `check FILE`,
 /// - `pack FILE --node=N` with N from 2 to 65535,
 /// - `convert FILE --from=FORM --to=FORM`, where each FORM is `fgb` or `wkb`,
 /// - `make --count=N --start=K` with N from 0 to 1000000 and K from 0 to 1000000000,
-/// - `report FILE --box=MINX,MINY,MAXX,MAXY`,
+/// - `report FILE --box=BOXES`, with `--gap=G`, or without for 0,
 /// - `serve FILE --port=P --connections=N` with P from 1 to 65535 and N from 1 to 1000000.
 ///
 /// FILE is a file's name or, but for `serve`, `http://127.0.0.1:PORT/PATH`, where `/PATH` has at most 1,024 bytes, all of
-/// them visible. The words behind the command may come in any order.
+/// them visible. BOXES are one to eight of `MINX,MINY,MAXX,MAXY` with a `+` between two, and G is from 0 to 1048576. The words
+/// behind the command may come in any order.
 pub fn plan<'a>(words: &[&'a str]) -> Option<Plan<'a>>
     ensures planned { IfSome result (λ plan. (request : Request) × Asks (texts words.now) request
         × (plan.command ≡ command_of request) × (input_at plan.target ≡ input_of request) × (plan.port ≡ port_of request)) }
@@ -53,6 +55,7 @@ pub fn plan<'a>(words: &[&'a str]) -> Option<Plan<'a>>
 /// Reads the words of a command, which do not hold the program's name.
 pub fn read_words<'a>(words: &[&'a str]) -> Option<Asked<'a>>
     ensures asked { IfSome result (λ asked. Asks (texts words.now) (request_of asked)) }
+    ensures short { IfSome result (λ asked. gap_of (request_of asked) ≤ 1048576) }
     ensures only { (request : Request) → Asks (texts words.now) request → IsSomeAnd result (λ asked. request_of asked ≡ request) }
 {
     let [command, rest @ ..] = words else {
@@ -71,19 +74,22 @@ pub fn read_words<'a>(words: &[&'a str]) -> Option<Asked<'a>>
 
 /// Reads the words behind `query`.
 fn read_query<'a>(words: &[&'a str]) -> Option<Query<'a>>
-    ensures some { IfSome result (λ q. AsksQuery (texts words.now) (input_in q.file) q.bounds q.output) }
-    ensures only { (input : Input) (bounds : Box) (output : Choice) → AsksQuery (texts words.now) input bounds output
-        → IsSomeAnd result (λ q. (input_in q.file ≡ input) × (q.bounds ≡ bounds) × (q.output ≡ output)) }
+    ensures short { IfSome result (λ q. q.gap ≤ 1048576) }
+    ensures some { IfSome result (λ q. AsksQuery (texts words.now) (input_in q.file) q.boxes q.gap q.output) }
+    ensures only { (input : Input) (boxes : List Box) (gap : ℕ) (output : Choice) → AsksQuery (texts words.now) input boxes gap output
+        → IsSomeAnd result (λ q. (input_in q.file ≡ input) × (q.boxes ≡ boxes) × (q.gap ≡ gap) × (q.output ≡ output)) }
 {
-    if !are_known(words, &["--box=", "--out="]) {
+    if !are_known(words, &["--box=", "--gap=", "--out="]) {
         return None;
     }
     let file = file_of(words)?;
-    let bounds = bounds_of(words)?;
+    let boxes = boxes_of(words)?;
+    let gap = read_gap(values_of(words, "--gap="))?;
     let output = read_output(values_of(words, "--out="))?;
     Some(Query {
         file,
-        bounds,
+        boxes,
+        gap,
         output,
     })
 }
@@ -147,16 +153,18 @@ fn read_make(words: &[&str]) -> Option<Making>
 
 /// Reads the words behind `report`.
 fn read_report<'a>(words: &[&'a str]) -> Option<Reporting<'a>>
-    ensures some { IfSome result (λ r. AsksReport (texts words.now) (input_in r.file) r.bounds) }
-    ensures only { (input : Input) (bounds : Box) → AsksReport (texts words.now) input bounds
-        → IsSomeAnd result (λ r. (input_in r.file ≡ input) × (r.bounds ≡ bounds)) }
+    ensures short { IfSome result (λ r. r.gap ≤ 1048576) }
+    ensures some { IfSome result (λ r. AsksReport (texts words.now) (input_in r.file) r.boxes r.gap) }
+    ensures only { (input : Input) (boxes : List Box) (gap : ℕ) → AsksReport (texts words.now) input boxes gap
+        → IsSomeAnd result (λ r. (input_in r.file ≡ input) × (r.boxes ≡ boxes) × (r.gap ≡ gap)) }
 {
-    if !are_known(words, &["--box="]) {
+    if !are_known(words, &["--box=", "--gap="]) {
         return None;
     }
     let file = file_of(words)?;
-    let bounds = bounds_of(words)?;
-    Some(Reporting { file, bounds })
+    let boxes = boxes_of(words)?;
+    let gap = read_gap(values_of(words, "--gap="))?;
+    Some(Reporting { file, boxes, gap })
 }
 
 /// Reads the words behind `serve`.
@@ -181,12 +189,25 @@ fn read_serve<'a>(words: &[&'a str]) -> Option<Serving<'a>>
     })
 }
 
-/// The box that the words give.
-fn bounds_of(words: &[&str]) -> Option<Bounds>
-    ensures some { IfSome result (GivesBox (texts words.now)) }
-    ensures only { (bounds : Box) → GivesBox (texts words.now) bounds → IsSomeAnd result (λ b. b ≡ bounds) }
+/// The boxes that the words give.
+fn boxes_of(words: &[&str]) -> Option<Boxes>
+    ensures some { IfSome result (GivesBoxes (texts words.now)) }
+    ensures only { (boxes : List Box) → GivesBoxes (texts words.now) boxes → IsSomeAnd result (λ b. b ≡ boxes) }
 {
-    read_box(value_of(words, "--box=")?).ok()
+    read_boxes(value_of(words, "--box=")?).ok()
+}
+
+/// The gap that is given, or 0 where there is none.
+fn read_gap(given: Given) -> Option<u32>
+    ensures short { IfSome result (λ gap. gap ≤ 1048576) }
+    ensures some { IfSome result (λ gap. (found : List (List ℕ)) → IsGiven given.entry found → IsGap found gap) }
+    ensures only { (found : List (List ℕ)) (gap : ℕ) → IsGiven given.entry found → IsGap found gap → IsSomeAnd result (λ g. g ≡ gap) }
+{
+    match given {
+        Given::Never => Some(0),
+        Given::Once(digits) => Some(read_within(digits, 0, 1_048_576)? as u32),
+        Given::Often => None,
+    }
 }
 
 /// The form that the words give the option of this name.

@@ -31,9 +31,9 @@ most_more count count' false more = omega (arith, more)
 abbrev pub OfScan : Header → ℕ → ℕ → Source → (List ℕ → Type 0) → Type 0
 OfScan header first end s P = IfTold s (λ image. IsScan image header first end → P image)
 
-module _ {V : Type 0} (step failed_step : V → Entry → V → Type 0) (header : Header) (box : Bounds) (first end : ℕ) where
+module _ {V : Type 0} (step failed_step : V → Entry → V → Type 0) (header : Header) (boxes : List Bounds) (first end : ℕ) where
   pub goes_start : (p : Pieces) (tally : Tally) (s : Source) (v : V) → Shows p s → next_of p ≡ first → seen_of tally ≡ 0
-      → ((image : List ℕ) (begun : ℕ) → header.features_count ≡ told_count image → Counts image begun [] tally) → Goes step header box first end p p tally 0 s s v v
+      → ((image : List ℕ) (begun : ℕ) → header.features_count ≡ told_count image → Counts image begun [] tally) → Goes step header boxes first end p p tally 0 s s v v
   goes_start p tally s v shows next none counts = record {
     fetches = fetches_nothing p s shows;
     few = omega (arith, none);
@@ -47,21 +47,21 @@ module _ {V : Type 0} (step failed_step : V → Entry → V → Type 0) (header 
     };
   }
 
-  module _ (p q : Pieces) (tally : Tally) (count : ℕ) (s t : Source) (v u : V) (goes : Goes step header box first end p q tally count s t v u) (starts : first_of p ≡ first) (ends : end_of p ≡ end) where
+  module _ (p q : Pieces) (tally : Tally) (count : ℕ) (s t : Source) (v u : V) (goes : Goes step header boxes first end p q tally count s t v u) (starts : first_of p ≡ first) (ends : end_of p ≡ end) where
     -- the section ends with the file
     whole : (image : List ℕ) → IsScan image header first end → end_of q ≡ length image
     whole image is = goes.fetches.end ∙ ends ∙ is.ends
 
     -- nothing more can be read
-    pub goes_part : OfScan header first end s (λ image. IsPart step failed_step image box v u)
-    goes_part image told is = stands_part step image box (next_of q) tally count v u (goes.stands image told is) failed_step
+    pub goes_part : OfScan header first end s (λ image. IsPart step failed_step image boxes v u)
+    goes_part image told is = stands_part step image boxes (next_of q) tally count v u (goes.stands image told is) failed_step
 
     -- the next size prefix is refused
-    pub goes_prefix : (e : Broken) → IfTold t (λ image. end_of q ≡ length image → RefusesNext q e image) → OfScan header first end s (λ image. IsRefused step image box e v u)
+    pub goes_prefix : (e : Broken) → IfTold t (λ image. end_of q ≡ length image → RefusesNext q e image) → OfScan header first end s (λ image. IsRefused step image boxes e v u)
     goes_prefix e refuses image told is =
         let next = refuses image (goes.fetches.reads.keeps.image ∙ told) (whole image is) in
         let breaks : BreaksFeature image (next_of q) e.place e.rule = subst (λ n. BreaksFeature image (next_of q) n e.rule) (sym next.place) (in_prefix next.breaks) in
-        stands_behind step image box (next_of q) tally count v u (goes.stands image told is) e next.early breaks
+        stands_behind step image boxes (next_of q) tally count v u (goes.stands image told is) e next.early breaks
 
     module _ (r : Pieces) (t' : Source) (fetches : Fetches q r t t') where
       -- the next feature is lent
@@ -75,29 +75,29 @@ module _ {V : Type 0} (step failed_step : V → Entry → V → Type 0) (header 
         lent : OfScan header first end s (λ image. StandsIn image r)
         lent image told is = next.stands image (goes.fetches.reads.keeps.image ∙ told) (whole image is)
 
-        stands_here : OfScan header first end s (λ image. Stands step image box (place_of r) tally count v u)
-        stands_here image told is = subst (λ n. Stands step image box n tally count v u) (sym next.place) (goes.stands image told is)
+        stands_here : OfScan header first end s (λ image. Stands step image boxes (place_of r) tally count v u)
+        stands_here image told is = subst (λ n. Stands step image boxes n tally count v u) (sym next.place) (goes.stands image told is)
 
         -- it was passed
-        pub goes_turn : (w : V) (tally' : Tally) (count' : ℕ) (handed : Bool) → PassesOne step header box r (seen_of tally) handed u w → seen_of tally' ≡ seen_of tally + 1
+        pub goes_turn : (w : V) (tally' : Tally) (count' : ℕ) (handed : Bool) → PassesOne step header boxes r (seen_of tally) handed u w → seen_of tally' ≡ seen_of tally + 1
             → ((image : List ℕ) (begun : ℕ) (pieces : List (List ℕ)) (piece : List ℕ) → Walks image begun pieces (place_of r) → Counts image begun pieces tally → Counts image begun (pieces ++ piece ∷ []) tally')
-            → MatchBool handed (count' ≡ count + 1) (count' ≡ count) → Goes step header box first end p r tally' count' s t' v w
+            → MatchBool handed (count' ≡ count + 1) (count' ≡ count) → Goes step header boxes first end p r tally' count' s t' v w
         goes_turn w tally' count' handed one more counts counted = record {
           fetches = fetches_on goes.fetches fetches;
           few = omega (arith, goes.few, next.place, next.some, more);
           fewer = omega (arith, goes.fewer, more, most_more count count' handed counted);
-          stands = λ image told is. stands_more image header first end is r (lent image told is) begun box step tally count v u w (stands_here image told is) tally' count' handed one (counts image (header_end image)) counted;
+          stands = λ image told is. stands_more image header first end is r (lent image told is) begun boxes step tally count v u w (stands_here image told is) tally' count' handed one (counts image (header_end image)) counted;
         }
 
         -- the visitor failed at it, or was not handed it
-        pub goes_failed : (w : V) → FailsOne failed_step header box r (seen_of tally) u w → OfScan header first end s (λ image. IsPart step failed_step image box v w)
-        goes_failed w fails image told is = stands_failed image header first end is r (lent image told is) begun box step tally count v u w (stands_here image told is) failed_step fails
+        pub goes_failed : (w : V) → FailsOne failed_step header boxes r (seen_of tally) u w → OfScan header first end s (λ image. IsPart step failed_step image boxes v w)
+        goes_failed w fails image told is = stands_failed image header first end is r (lent image told is) begun boxes step tally count v u w (stands_here image told is) failed_step fails
 
         -- it breaks a rule
-        pub goes_broken : (w : V) (e : Broken) → w ≡ u → Names (place_of r + 4) (BreaksBuffer (buffer_of r) (feature_root header)) e → OfScan header first end s (λ image. IsRefused step image box e v w)
+        pub goes_broken : (w : V) (e : Broken) → w ≡ u → Names (place_of r + 4) (BreaksBuffer (buffer_of r) (feature_root header)) e → OfScan header first end s (λ image. IsRefused step image boxes e v w)
         goes_broken w e same named image told is =
-            subst (λ x. IsRefused step image box e v x) (sym same)
-            (stands_behind step image box (place_of r) tally count v u (stands_here image told is) e (early_there image header first end is r (lent image told is) begun) (breaks_there image header first end is r (lent image told is) begun e named))
+            subst (λ x. IsRefused step image boxes e v x) (sym same)
+            (stands_behind step image boxes (place_of r) tally count v u (stands_here image told is) e (early_there image header first end is r (lent image told is) begun) (breaks_there image header first end is r (lent image told is) begun e named))
 
       -- the features have ended
       module _ (ended : IsAtEnd q r) where
@@ -106,17 +106,17 @@ module _ {V : Type 0} (step failed_step : V → Entry → V → Type 0) (header 
 
         -- their number is wrong
         pub goes_miscounted : (e : Broken) → ((image : List ℕ) (begun : ℕ) (pieces : List (List ℕ)) → end ≡ length image → Counts image begun pieces tally → BreaksCount image begun pieces e.place e.rule)
-            → OfScan header first end s (λ image. IsRefused step image box e v u)
+            → OfScan header first end s (λ image. IsRefused step image boxes e v u)
         goes_miscounted e judged image told is =
             let stands = goes.stands image told is in
-            stands_miscounted step image box (next_of q) tally count v u stands (at_end_of image is) e (judged image (header_end image) stands.pieces is.ends stands.counts)
+            stands_miscounted step image boxes (next_of q) tally count v u stands (at_end_of image is) e (judged image (header_end image) stands.pieces is.ends stands.counts)
 
         -- or right
         pub goes_done : ((image : List ℕ) (begun : ℕ) (pieces : List (List ℕ)) → end ≡ length image → Counts image begun pieces tally → Agrees (told_count image) (length pieces))
-            → OfScan header first end s (λ image. IsDone step image box count v u)
+            → OfScan header first end s (λ image. IsDone step image boxes count v u)
         goes_done judged image told is =
             let stands = goes.stands image told is in
-            stands_done step image box (next_of q) tally count v u stands (at_end_of image is) (judged image (header_end image) stands.pieces is.ends stands.counts)
+            stands_done step image boxes (next_of q) tally count v u stands (at_end_of image is) (judged image (header_end image) stands.pieces is.ends stands.counts)
 
 -- ## What was asked for
 

@@ -4,7 +4,7 @@ use Rattle.std.specs.Prelude.{slice_range}
 use Rattle.std.specs.Bool.{MatchBool}
 use Rattle.std.specs.List.{concat}
 use Rattle.order_keys.specs.declared.bounds.Bounds.{Bounds}
-use Rattle.order_keys.specs.Boxes.{meets}
+use Rattle.box_list.specs.Lists.{meets_any}
 use Rattle.flat_layout.specs.declared.Broken.{Broken}
 use Rattle.flat_layout.specs.Promises.{IsClean, Names}
 use Rattle.fgb_schema.specs.Paths.{feature_root}
@@ -26,19 +26,19 @@ use Rattle.feature_scan.specs.Scans.{IsScan, Scanned, whole, ScannedPart, part, 
 use Rattle.feature_scan.specs.Walks.{IsCleanLent, lent_entry, PassesOne, FailsOne, unhanded, failed, Stands}
 
 -- what a scan promises: done, stopped, and refused
-abbrev pub IsDone : {V : Type 0} → (V → Entry → V → Type 0) → List ℕ → Bounds → ℕ → V → V → Type 0
-IsDone step image box count v w = (entries : List Entry) × Scanned image box entries × Takes step v entries w × (count ≡ length entries)
+abbrev pub IsDone : {V : Type 0} → (V → Entry → V → Type 0) → List ℕ → List Bounds → ℕ → V → V → Type 0
+IsDone step image boxes count v w = (entries : List Entry) × Scanned image boxes entries × Takes step v entries w × (count ≡ length entries)
 
-abbrev pub IsPart : {V : Type 0} → (V → Entry → V → Type 0) → (V → Entry → V → Type 0) → List ℕ → Bounds → V → V → Type 0
-IsPart step failed_step image box v w = (entries : List Entry) × ScannedPart image box entries × TakesPart step failed_step v entries w
+abbrev pub IsPart : {V : Type 0} → (V → Entry → V → Type 0) → (V → Entry → V → Type 0) → List ℕ → List Bounds → V → V → Type 0
+IsPart step failed_step image boxes v w = (entries : List Entry) × ScannedPart image boxes entries × TakesPart step failed_step v entries w
 
-abbrev pub IsRefused : {V : Type 0} → (V → Entry → V → Type 0) → List ℕ → Bounds → Broken → V → V → Type 0
-IsRefused step image box broken v w = (entries : List Entry) × ScanRefused image box broken entries × Takes step v entries w
+abbrev pub IsRefused : {V : Type 0} → (V → Entry → V → Type 0) → List ℕ → List Bounds → Broken → V → V → Type 0
+IsRefused step image boxes broken v w = (entries : List Entry) × ScanRefused image boxes broken entries × Takes step v entries w
 
 -- ## The feature that is lent, in the file
 
 module _ (image : List ℕ) (header : Header) (first end : ℕ) (is : IsScan image header first end) (p : Pieces) (lent : StandsIn image p) (from : first_of p ≡ first) where
-  -- its own box
+  -- its own boxes
   box_there : box_of (header_in image) (piece_at image (place_of p)) ≡ own_box (feature_of header (buffer_of p))
   box_there =
       ap (λ b. own_box (feature_of (header_in image) b)) (piece_buffer image (place_of p) lent.framed ∙ sym lent.buffer)
@@ -77,25 +77,25 @@ module _ (image : List ℕ) (header : Header) (first end : ℕ) (is : IsScan ima
       let at_e : at + 4 + named.0 ≡ e.place = omega (arith, named.1) in
       subst (λ n. BreaksFeature image at n e.rule) at_e (in_buffer lent.framed broken)
 
-  module _ (box : Bounds) where
-    -- where its own box meets the box it is found, and else not
-    found_there : (pieces : List (List ℕ)) (number : ℕ) → Passes image None pieces (place_of p) → number ≡ length pieces → meets (own_box (feature_of header (buffer_of p))) box ≡ true
-        → found (header_in image) box (pieces ++ piece_at image (place_of p) ∷ []) ≡ found (header_in image) box pieces ++ lent_entry header p number ∷ []
+  module _ (boxes : List Bounds) where
+    -- where its own box meets one of the boxes it is found, and else not
+    found_there : (pieces : List (List ℕ)) (number : ℕ) → Passes image None pieces (place_of p) → number ≡ length pieces → meets_any boxes (own_box (feature_of header (buffer_of p))) ≡ true
+        → found (header_in image) boxes (pieces ++ piece_at image (place_of p) ∷ []) ≡ found (header_in image) boxes pieces ++ lent_entry header p number ∷ []
     found_there pieces number passes counted hit =
-        found_hit (header_in image) box pieces (piece_at image (place_of p)) (ap (λ b. meets b box) box_there ∙ hit)
-        ∙ ap (λ (e : Entry). found (header_in image) box pieces ++ e ∷ []) (entry_there pieces number passes counted)
+        found_hit (header_in image) boxes pieces (piece_at image (place_of p)) (ap (meets_any boxes) box_there ∙ hit)
+        ∙ ap (λ (e : Entry). found (header_in image) boxes pieces ++ e ∷ []) (entry_there pieces number passes counted)
 
-    unfound_there : (pieces : List (List ℕ)) → meets (own_box (feature_of header (buffer_of p))) box ≡ false
-        → found (header_in image) box (pieces ++ piece_at image (place_of p) ∷ []) ≡ found (header_in image) box pieces
-    unfound_there pieces miss = found_miss (header_in image) box pieces (piece_at image (place_of p)) (ap (λ b. meets b box) box_there ∙ miss)
+    unfound_there : (pieces : List (List ℕ)) → meets_any boxes (own_box (feature_of header (buffer_of p))) ≡ false
+        → found (header_in image) boxes (pieces ++ piece_at image (place_of p) ∷ []) ≡ found (header_in image) boxes pieces
+    unfound_there pieces miss = found_miss (header_in image) boxes pieces (piece_at image (place_of p)) (ap (meets_any boxes) box_there ∙ miss)
 
-    module _ {V : Type 0} (step : V → Entry → V → Type 0) (tally : Tally) (count : ℕ) (v u w : V) (stands : Stands step image box (place_of p) tally count v u) where
+    module _ {V : Type 0} (step : V → Entry → V → Type 0) (tally : Tally) (count : ℕ) (v u w : V) (stands : Stands step image boxes (place_of p) tally count v u) where
       -- it was passed
-      pub stands_more : (tally' : Tally) (count' : ℕ) (handed : Bool) → PassesOne step header box p (seen_of tally) handed u w
+      pub stands_more : (tally' : Tally) (count' : ℕ) (handed : Bool) → PassesOne step header boxes p (seen_of tally) handed u w
           → ((pieces : List (List ℕ)) (piece : List ℕ) → Walks image (header_end image) pieces (place_of p) → Counts image (header_end image) pieces tally → Counts image (header_end image) (pieces ++ piece ∷ []) tally')
-          → MatchBool handed (count' ≡ count + 1) (count' ≡ count) → Stands step image box (next_of p) tally' count' v w
+          → MatchBool handed (count' ≡ count + 1) (count' ≡ count) → Stands step image boxes (next_of p) tally' count' v w
       stands_more tally' count' true one counts more =
-          let all = found (header_in image) box stands.pieces in
+          let all = found (header_in image) boxes stands.pieces in
           let grows = found_there stands.pieces (seen_of tally) stands.passes stands.counts.seen (sym one.met) in
           record {
             pieces = stands.pieces ++ piece_at image (place_of p) ∷ [];
@@ -105,7 +105,7 @@ module _ (image : List ℕ) (header : Header) (first end : ℕ) (is : IsScan ima
             takes = subst (λ es. Takes step v es w) (sym grows) (takes_more step v u w all (lent_entry header p (seen_of tally)) stands.takes one.taken);
           }
       stands_more tally' count' false one counts more =
-          let all = found (header_in image) box stands.pieces in
+          let all = found (header_in image) boxes stands.pieces in
           let same = unfound_there stands.pieces (sym one.met) in
           record {
             pieces = stands.pieces ++ piece_at image (place_of p) ∷ [];
@@ -116,33 +116,33 @@ module _ (image : List ℕ) (header : Header) (first end : ℕ) (is : IsScan ima
           }
 
       -- it was not
-      pub stands_failed : (failed_step : V → Entry → V → Type 0) → FailsOne failed_step header box p (seen_of tally) u w → IsPart step failed_step image box v w
+      pub stands_failed : (failed_step : V → Entry → V → Type 0) → FailsOne failed_step header boxes p (seen_of tally) u w → IsPart step failed_step image boxes v w
       stands_failed failed_step (unhanded same) =
-          let all = found (header_in image) box stands.pieces in
+          let all = found (header_in image) boxes stands.pieces in
           (all, part stands.passes, part_all step failed_step v w all (subst (λ x. Takes step v all x) (sym same) stands.takes))
       stands_failed failed_step (failed clean hit fails) =
-          let all = found (header_in image) box stands.pieces in
+          let all = found (header_in image) boxes stands.pieces in
           let e = lent_entry header p (seen_of tally) in (
             all ++ e ∷ [],
-            subst (ScannedPart image box) (found_there stands.pieces (seen_of tally) stands.passes stands.counts.seen hit) (part (passes_there stands.pieces stands.passes clean)),
+            subst (ScannedPart image boxes) (found_there stands.pieces (seen_of tally) stands.passes stands.counts.seen hit) (part (passes_there stands.pieces stands.passes clean)),
             part_failed step failed_step v u w all e [] stands.takes fails,
           )
 
 -- ## Where it stops
 
-module _ {V : Type 0} (step : V → Entry → V → Type 0) (image : List ℕ) (box : Bounds) (at : ℕ) (tally : Tally) (count : ℕ) (v w : V) (stands : Stands step image box at tally count v w) where
-  pub stands_part : (failed_step : V → Entry → V → Type 0) → IsPart step failed_step image box v w
-  stands_part failed_step = let all = found (header_in image) box stands.pieces in (all, part stands.passes, part_all step failed_step v w all stands.takes)
+module _ {V : Type 0} (step : V → Entry → V → Type 0) (image : List ℕ) (boxes : List Bounds) (at : ℕ) (tally : Tally) (count : ℕ) (v w : V) (stands : Stands step image boxes at tally count v w) where
+  pub stands_part : (failed_step : V → Entry → V → Type 0) → IsPart step failed_step image boxes v w
+  stands_part failed_step = let all = found (header_in image) boxes stands.pieces in (all, part stands.passes, part_all step failed_step v w all stands.takes)
 
   -- at a feature that breaks a rule
-  pub stands_behind : (e : Broken) → at < length image → BreaksFeature image at e.place e.rule → IsRefused step image box e v w
-  stands_behind e early breaks = (found (header_in image) box stands.pieces, behind stands.passes early breaks, stands.takes)
+  pub stands_behind : (e : Broken) → at < length image → BreaksFeature image at e.place e.rule → IsRefused step image boxes e v w
+  stands_behind e early breaks = (found (header_in image) boxes stands.pieces, behind stands.passes early breaks, stands.takes)
 
   module _ (ends : length image ≡ at) where
     -- at the end, where their number is wrong
-    pub stands_miscounted : (e : Broken) → BreaksCount image (header_end image) stands.pieces e.place e.rule → IsRefused step image box e v w
-    stands_miscounted e breaks = (found (header_in image) box stands.pieces, at_end (passes_end image stands.passes (omega (arith, ends))) breaks, stands.takes)
+    pub stands_miscounted : (e : Broken) → BreaksCount image (header_end image) stands.pieces e.place e.rule → IsRefused step image boxes e v w
+    stands_miscounted e breaks = (found (header_in image) boxes stands.pieces, at_end (passes_end image stands.passes (omega (arith, ends))) breaks, stands.takes)
 
     -- or right
-    pub stands_done : Agrees (told_count image) (length stands.pieces) → IsDone step image box count v w
-    stands_done agrees = (found (header_in image) box stands.pieces, whole (passes_file image stands.passes (omega (arith, ends)) agrees), stands.takes, stands.many)
+    pub stands_done : Agrees (told_count image) (length stands.pieces) → IsDone step image boxes count v w
+    stands_done agrees = (found (header_in image) boxes stands.pieces, whole (passes_file image stands.passes (omega (arith, ends)) agrees), stands.takes, stands.many)

@@ -14,17 +14,17 @@ pub record IsScan (image : List ℕ) (header : Header) (first end : ℕ) : Type 
   pub ends : end ≡ length image
 
 -- the file breaks no rule, and these are the found ones of its features
-pub data Scanned (image : List ℕ) (box : Bounds) : List Entry → Type 0 where
-  whole : {pieces : List (List ℕ)} → IsFile image None pieces → Scanned image box (found (header_in image) box pieces)
+pub data Scanned (image : List ℕ) (boxes : List Bounds) : List Entry → Type 0 where
+  whole : {pieces : List (List ℕ)} → IsFile image None pieces → Scanned image boxes (found (header_in image) boxes pieces)
 
 -- these are the found ones of features that were passed, and break no rule
-pub data ScannedPart (image : List ℕ) (box : Bounds) : List Entry → Type 0 where
-  part : {pieces : List (List ℕ)} {at : ℕ} → Passes image None pieces at → ScannedPart image box (found (header_in image) box pieces)
+pub data ScannedPart (image : List ℕ) (boxes : List Bounds) : List Entry → Type 0 where
+  part : {pieces : List (List ℕ)} {at : ℕ} → Passes image None pieces at → ScannedPart image boxes (found (header_in image) boxes pieces)
 
 -- the file breaks this rule at this place, in the feature behind those that were passed, or at the end in their number,
 -- and these are the found ones of them
-pub data ScanRefused (image : List ℕ) (box : Bounds) (broken : Broken) : List Entry → Type 0 where
+pub data ScanRefused (image : List ℕ) (boxes : List Bounds) (broken : Broken) : List Entry → Type 0 where
   behind : {pieces : List (List ℕ)} {at : ℕ} → Passes image None pieces at → at < length image → BreaksFeature image at broken.place broken.rule
-      → ScanRefused image box broken (found (header_in image) box pieces)
+      → ScanRefused image boxes broken (found (header_in image) boxes pieces)
   at_end : {pieces : List (List ℕ)} → Passes image None pieces (length image) → BreaksCount image (header_end image) pieces broken.place broken.rule
-      → ScanRefused image box broken (found (header_in image) box pieces)
+      → ScanRefused image boxes broken (found (header_in image) boxes pieces)

@@ -1,4 +1,5 @@
 use super::*;
+use box_list::Boxes;
 use fgb_header::HeaderView;
 use fgb_outside::{MemorySource, RangeSource};
 use flat_views::{Broken, Rule};
@@ -31,8 +32,9 @@ fn features_are_scanned(rt: HostRuntime) -> Result<(), Fail> {
     assert_eq!(rt; source.size(), 215);
     let header = HeaderView::read(&EMPTY[12..], 12)?;
     let origin = Bounds::of_point(Coord(0), Coord(0));
+    let boxes = Boxes::one(origin);
     let mut visitor = Collect::new(alloc);
-    let found = scan(alloc, &header, origin, 36, 212, &mut source, &mut visitor);
+    let found = scan(alloc, &header, &boxes, 36, 212, &mut source, &mut visitor);
     assert_eq!(rt; found, Ok(2));
     assert_eq!(rt; visitor.len(), 2);
     assert_eq!(rt; visitor.item(1), (1, 88, &FEATURE[4..], origin));
@@ -42,7 +44,7 @@ fn features_are_scanned(rt: HostRuntime) -> Result<(), Fail> {
         rule: Rule::FeaturePastEnd,
     };
     let mut visitor = Collect::new(alloc);
-    let found = scan(alloc, &header, origin, 36, 215, &mut source, &mut visitor);
+    let found = scan(alloc, &header, &boxes, 36, 215, &mut source, &mut visitor);
     assert_eq!(rt; found, Err(QueryError::Refused(cut)));
     assert_eq!(rt; visitor.len(), 2);
     Ok(())

@@ -88,20 +88,20 @@ module _ {T : Type 0} where
   at_refusal (Err TooLarge) P p = tt
 
 -- what a query leaves
-pub record Queried {T : Type 0} (box : Bounds) (output : Output) (s s' : Source) (o o' : Sink) (result : Result T TextError) : Type 0 where
-  pub headline : OnOk result (IfTold s (λ image. (index : Option Shape) (pieces : List (List ℕ)) → IsFile image index pieces → Headline image index pieces box output s s' o o'))
-  pub headline_part : IfTold s (λ image. (index : Option Shape) (pieces : List (List ℕ)) → IsFile image index pieces → HeadlinePart image index pieces box output s s' o o')
-  pub done : OnOk result (IfTold s (λ image. TextOf image box output o o'))
+pub record Queried {T : Type 0} (boxes : List Bounds) (gap : ℕ) (output : Output) (s s' : Source) (o o' : Sink) (result : Result T TextError) : Type 0 where
+  pub headline : OnOk result (IfTold s (λ image. (index : Option Shape) (pieces : List (List ℕ)) → IsFile image index pieces → Headline image index pieces boxes gap output s s' o o'))
+  pub headline_part : IfTold s (λ image. (index : Option Shape) (pieces : List (List ℕ)) → IsFile image index pieces → HeadlinePart image index pieces boxes gap output s s' o o')
+  pub done : OnOk result (IfTold s (λ image. TextOf image boxes output o o'))
   pub sound : OnOk result (IfTold s (λ image. IsUnindexed image → IsValid image × AsksAll image s s'))
-  pub refused : IfTextRefused result (λ broken. IfTold s (λ image. TextRefused image box output o o' broken × (IsUnindexed image → BreaksFirst image broken)))
+  pub refused : IfTextRefused result (λ broken. IfTold s (λ image. TextRefused image boxes output o o' broken × (IsUnindexed image → BreaksFirst image broken)))
   pub unrefused : IfTold s (λ image. IsValid image → IfTextRefused result (λ _. ⊥))
-  pub part : IfTold s (λ image. TextPart image box output o o')
+  pub part : IfTold s (λ image. TextPart image boxes output o o')
   pub large : result ≡ Err text_error.TooLarge → IfTold s (λ image. IsTooWide output (header_in image) × ((index : Option Shape) × IsOpen image index) × Appends o o' [])
   pub large_done : IfTold s (λ image. (index : Option Shape) → IsOpen image index → IsTooWide output (header_in image)
       → ((result ≡ Err text_error.TooLarge) ⊎ (result ≡ Err text_error.Memory) ⊎ (result ≡ Err text_error.SourceFailed)) × Appends o o' [])
   pub large_file : result ≡ Err text_error.TooLarge → output ≡ Fgb
   pub declared : IfTold s (λ image. AsksOnly (IsDeclared image) s s')
-  pub search : IfTold s (λ image. (t : Shape) → IsOpen image (Some t) → AsksSearch image t box s s')
+  pub search : IfTold s (λ image. (t : Shape) → IsOpen image (Some t) → AsksSearch image t boxes gap s s')
   pub front : IfTold s (λ image. ((t : Shape) → IsOpen image (Some t) → ⊥) → AsksFront image s s')
   pub failed : IsErrOf result text_error.SourceFailed → Rose s.faults s'.faults
   pub sink_failed : IsErrOf result text_error.SinkFailed → Rose o.faults o'.faults
@@ -129,8 +129,8 @@ wide_status e e' status (Err SinkFailed) is came = elim came [
 ]
 
 module _ {T : Type 0} (s s' : Source) (o o' e e' : Sink) (status : ℕ) (r : Result T Stop) (is : IsStatus r e e' status) where
-  runs : (box : Bounds) (output : Output) → Queried box output s s' o o' (text_of r) → Runs box output s s' o o' e e' status
-  runs box output q = record {
+  runs : (boxes : List Bounds) (gap : ℕ) (output : Output) → Queried boxes gap output s s' o o' (text_of r) → Runs boxes gap output s s' o o' e e' status
+  runs boxes gap output q = record {
     headline = λ zero. (at_done e e' status r _ is (at_ok r _ q.headline) zero).0;
     valid_part = q.headline_part;
     valid_done = λ image told valid fits source sink. done_or_memory
@@ -162,11 +162,11 @@ module _ {T : Type 0} (s s' : Source) (o o' e e' : Sink) (status : ℕ) (r : Res
   }
 
   -- the promise at what the words ask for
-  pub does_query : (file : Input) (box : Bounds) (output : Output) (request : Request) (asked : Result T TextError) → MatchResult asked (λ done. r ≡ Ok done) (λ error. IsErrAnd r (IsTextCause error))
-      → Queried box output s s' o o' asked → query file box output ≡ request → (status ≢ 2) × Does request s s' o o' e e' status
-  does_query file box output request asked made q same = (
+  pub does_query : (file : Input) (boxes : List Bounds) (gap : ℕ) (output : Output) (request : Request) (asked : Result T TextError) → MatchResult asked (λ done. r ≡ Ok done) (λ error. IsErrAnd r (IsTextCause error))
+      → Queried boxes gap output s s' o o' asked → query file boxes gap output ≡ request → (status ≢ 2) × Does request s s' o o' e e' status
+  does_query file boxes gap output request asked made q same = (
     not_usage e e' status r is,
-    subst (λ what. Does what s s' o o' e e' status) same (runs box output (subst (Queried box output s s' o o') (mapped asked r made) q)),
+    subst (λ what. Does what s s' o o' e e' status) same (runs boxes gap output (subst (Queried boxes gap output s s' o o') (mapped asked r made) q)),
   )
 
 -- ## A check

@@ -28,27 +28,27 @@ use Rattle.command_words.specs.Texts.{Tells, refusal_text, source_text, sink_tex
 use Rattle.command_words.specs.Requests.{Request, query, check, pack, convert, make, report, serve}
 use Rattle.fgb_tool.specs.Texts.{accepted_text}
 
--- what a query of this box that writes such a text does, by the status that it ends with
-pub record Runs (box : Bounds) (output : Output) (s s' : Source) (o o' e e' : Sink) (status : ℕ) : Type 0 where
+-- what a query of these boxes, with this gap, that writes such a text does, by the status that it ends with
+pub record Runs (boxes : List Bounds) (gap : ℕ) (output : Output) (s s' : Source) (o o' e e' : Sink) (status : ℕ) : Type 0 where
   -- a file that breaks no rule is answered at 0, and at each other status by a front of that
-  pub headline : status ≡ 0 → IfTold s (λ image. (index : Option Shape) (pieces : List (List ℕ)) → IsFile image index pieces → Headline image index pieces box output s s' o o')
-  pub valid_part : IfTold s (λ image. (index : Option Shape) (pieces : List (List ℕ)) → IsFile image index pieces → HeadlinePart image index pieces box output s s' o o')
+  pub headline : status ≡ 0 → IfTold s (λ image. (index : Option Shape) (pieces : List (List ℕ)) → IsFile image index pieces → Headline image index pieces boxes gap output s s' o o')
+  pub valid_part : IfTold s (λ image. (index : Option Shape) (pieces : List (List ℕ)) → IsFile image index pieces → HeadlinePart image index pieces boxes gap output s s' o o')
   -- where no count rose, it is answered, or its header laid anew would be too large, or there was no memory
   pub valid_done : IfTold s (λ image. IsValid image → (IsTooWide output (header_in image) → ⊥) → (Rose s.faults s'.faults → ⊥) → (Rose o.faults o'.faults → ⊥) → (status ≡ 0) ⊎ (status ≡ 5))
   pub valid_large : IfTold s (λ image. IsValid image → IsTooWide output (header_in image) → (Rose s.faults s'.faults → ⊥) → (status ≡ 6) ⊎ (status ≡ 5))
   -- whatever the bytes, each request lies inside one section that may be asked for; what is asked for rises, each
   -- position once, and of an index just wanted nodes
   pub declared : IfTold s (λ image. AsksOnly (IsDeclared image) s s')
-  pub search : IfTold s (λ image. (t : Shape) → IsOpen image (Some t) → AsksSearch image t box s s')
+  pub search : IfTold s (λ image. (t : Shape) → IsOpen image (Some t) → AsksSearch image t boxes gap s s')
   pub front : IfTold s (λ image. ((t : Shape) → IsOpen image (Some t) → ⊥) → AsksFront image s s')
   -- 0: the text of what is found was written; a file without an index breaks no rule, and all of it was asked for
-  pub done : status ≡ 0 → IfTold s (λ image. TextOf image box output o o')
+  pub done : status ≡ 0 → IfTold s (λ image. TextOf image boxes output o o')
   pub sound : status ≡ 0 → IfTold s (λ image. IsUnindexed image → IsValid image × AsksAll image s s')
   pub quiet : status ≡ 0 → e' ≡ e
   -- 1: the printed rule is broken at the printed place, and just the text of what is found before it was written;
   -- without an index it is broken in the first unit in which any is
   pub refused : status ≡ 1 → (broken : Broken) × Tells e e' (refusal_text broken) × IfTold s (λ image.
-      TextRefused image box output o o' broken × (IsUnindexed image → BreaksFirst image broken))
+      TextRefused image boxes output o o' broken × (IsUnindexed image → BreaksFirst image broken))
   -- 3, 4 and 5: the source failed, the sink failed, or there was no memory
   pub source_failed : status ≡ 3 → Rose s.faults s'.faults × Tells e e' source_text
   pub sink_failed : status ≡ 4 → Rose o.faults o'.faults × Tells e e' sink_text
@@ -63,7 +63,7 @@ pub record Runs (box : Bounds) (output : Output) (s s' : Source) (o o' e e' : Si
       → ((status ≡ 6) ⊎ (status ≡ 5) ⊎ (status ≡ 3)) × Appends o o' [])
   pub statuses : (status ≡ 0) ⊎ (status ≡ 1) ⊎ (status ≡ 3) ⊎ (status ≡ 4) ⊎ (status ≡ 5) ⊎ (status ≡ 6)
   -- whatever the status, the text of what is found was written, or a front of it
-  pub part : IfTold s (λ image. TextPart image box output o o')
+  pub part : IfTold s (λ image. TextPart image boxes output o o')
 
 -- the file breaks no rule, and the line with the numbers of its features and of its nodes was written
 pub record Accepts (image : List ℕ) (o o' : Sink) : Type 0 where
@@ -191,10 +191,10 @@ pub record Makes (count start : ℕ) (s s' : Source) (o o' e e' : Sink) (status 
 
 -- what was asked for is done
 abbrev pub Does : Request → Source → Source → Sink → Sink → Sink → Sink → ℕ → Type 0
-Does (query input box output) s s' o o' e e' status = Runs box output s s' o o' e e' status
+Does (query input boxes gap output) s s' o o' e e' status = Runs boxes gap output s s' o o' e e' status
 Does (check input) s s' o o' e e' status = Checks s s' o o' e e' status
 Does (pack input node_size) s s' o o' e e' status = Repacks node_size s s' o o' e e' status
 Does (convert input from to) s s' o o' e e' status = Converts from to s s' o o' e e' status
 Does (make count start) s s' o o' e e' status = Makes count start s s' o o' e e' status
-Does (report input box) s s' o o' e e' status = ⊥
+Does (report input boxes gap) s s' o o' e e' status = ⊥
 Does (serve name port connections) s s' o o' e e' status = ⊥

@@ -16,9 +16,10 @@ use text_query::write_found;
 
 /// Answers the command of the words, which do not hold the program's name, over a file, and gives the status
 /// that the program ends with. What is found is written on `out`; a text that says why there is no answer, on
-/// `err`. The commands are `query FILE --box=MINX,MINY,MAXX,MAXY`, with `--out=lines`, `--out=fgb` or `--out=wkb`,
-/// `check FILE`, `pack FILE --node=N`, `convert FILE --from=FORM --to=FORM`, where each form is `fgb` or `wkb`, and
-/// `make --count=N --start=K`, which asks nothing of the file.
+/// `err`. The commands are `query FILE --box=BOXES`, with one to eight boxes MINX,MINY,MAXX,MAXY and a `+` between
+/// two of them, with `--gap=G`, and with `--out=lines`, `--out=fgb` or `--out=wkb`, `check FILE`, `pack FILE --node=N`,
+/// `convert FILE --from=FORM --to=FORM`, where each form is `fgb` or `wkb`, and `make --count=N --start=K`, which asks
+/// nothing of the file.
 pub fn run<S: RangeSource, W: Sink, E: Sink>(
     alloc: Global,
     words: &[&str],
@@ -32,7 +33,7 @@ pub fn run<S: RangeSource, W: Sink, E: Sink>(
     ensures usage_text { result ≡ 2 → Tells (E.shown err.old) (E.shown err.new) usage_text }
     ensures untouched { result ≡ 2 → (S.seen file.new ≡ S.seen file.old) × (W.shown out.new ≡ W.shown out.old) }
 
-    // Else the words ask for the features that meet a box, whether a file breaks a rule, for its packing, for its
+    // Else the words ask for the features that meet one of some boxes, whether a file breaks a rule, for its packing, for its
     // conversion, or to make features, and this is what happens.
     ensures asked { result ≢ 2 → (request : Request) × Asks (texts words.now) request × IsRun request }
     ensures does { (request : Request) → Asks (texts words.now) request → IsRun request → (result ≢ 2)
@@ -40,7 +41,7 @@ pub fn run<S: RangeSource, W: Sink, E: Sink>(
 {
     match read_words(words) {
         Some(Asked::Query(sought)) => {
-            let written = write_found(alloc, sought.bounds, sought.output, file, out);
+            let written = write_found(alloc, &sought.boxes, sought.gap, sought.output, file, out);
             status_of(written.map_err(Stop::from), err)
         }
         Some(Asked::Check(_)) => status_of(check_file(alloc, file, out), err),

@@ -3,3 +3,4 @@ mod Numerals
 mod Splitting
 mod Tables
 mod Refusing
+pub mod Choosing

@@ -1,13 +1,15 @@
 -- What a visitor with a condition does: by the relations of the visitor inside, from a state before a call to that after.
-use Rattle.std.specs.Prelude.{◌≡◌, ◌⊎◌, ℕ, ◌+◌, ◌-◌, ◌^◌, min, Bool, true, false, List, Option, Some, None}
+use Rattle.std.specs.Prelude.{◌≡◌, ℕ, ◌+◌, ◌-◌, ◌^◌, min, Bool, true, false, List, Option, Some, None}
 use Rattle.std.specs.Bool.{MatchBool}
+use Rattle.std.specs.List.{filter}
 use Rattle.flat_layout.specs.Promises.{Names}
 use Rattle.flat_layout.specs.declared.Broken.{Broken}
-use Rattle.fgb_schema.specs.Headers.{Header}
+use Rattle.fgb_schema.specs.Headers.{Header, header_of}
 use Rattle.fgb_schema.specs.Features.{feature_of}
 use Rattle.found_features.specs.Entries.{Entry}
+use Rattle.found_features.specs.Visits.{HeaderBytes}
 use Rattle.fgb_where.specs.declared.words.Condition.{Condition}
-use Rattle.fgb_where.specs.Binding.{Bounded, Binds, Breaks, BreaksCondition}
+use Rattle.fgb_where.specs.Binding.{Bounded, Binds, BreaksCondition}
 use Rattle.fgb_where.specs.Holding.{holds}
 
 -- a header that is kept, and the condition as it was bound under it
@@ -38,38 +40,37 @@ pub record Starts {V : Type 0} (start : V → Header → V → Type 0) (a : Stat
   pub kept : b.kept ≡ Some (record { header = h; bounded = bounded })
   pub inner : start a.inner h b.inner
 
--- the condition is refused, and the visitor inside is as it was
-pub record IsRefused {V : Type 0} (a : State V) (h : Header) (b : State V) : Type 0 where
+-- the condition is refused: it breaks a rule at its place in the header's bytes, that is the last refusal, one more is
+-- counted, and the visitor inside is as it was
+pub record IsRefused {V : Type 0} (a : State V) (h : HeaderBytes) (b : State V) : Type 0 where
   pub broken : Broken
-  pub rule : Breaks h a.condition broken.rule
+  pub named : Names h.place (BreaksCondition h.bytes a.condition) broken
   pub refused : b.refused ≡ Some broken
   pub refusals : b.refusals ≡ min (a.refusals + 1) (2 ^ 64 - 1)
   pub condition : b.condition ≡ a.condition
   pub inner : b.inner ≡ a.inner
 
--- the condition is bound, and the visitor inside is as it was or fails to begin
-pub record FailsInside {V : Type 0} (failed_start : V → Header → V → Type 0) (a : State V) (h : Header) (b : State V) : Type 0 where
+-- the condition is bound under a header, and its refusals stay
+pub record IsBound {V : Type 0} (a : State V) (h : Header) (b : State V) : Type 0 where
   pub stays : Stays a b
   pub bounded : Bounded
   pub binds : Binds h a.condition bounded
-  pub inner : (b.inner ≡ a.inner) ⊎ failed_start a.inner h b.inner
 
--- it fails to begin, and keeps nothing
-pub record FailsStart {V : Type 0} (failed_start : V → Header → V → Type 0) (a : State V) (h : Header) (b : State V) : Type 0 where
-  pub kept : b.kept ≡ None
-  pub reason : IsRefused a h b ⊎ FailsInside failed_start a h b
-
--- a refusal in one call, at a rule that the condition breaks under the header in these bytes, which begin at this place
-pub record RefusesNow {V : Type 0} (base : ℕ) (bytes : List ℕ) (a b : State V) : Type 0 where
-  pub broken : Broken
-  pub named : Names base (BreaksCondition bytes a.condition) broken
-  pub refused : b.refused ≡ Some broken
-  pub inner : b.inner ≡ a.inner
+-- it fails to begin, and keeps nothing: the condition is refused; it is bound and memory is wanting, the visitor inside
+-- being as it was; or it is bound and the visitor inside fails to begin
+pub data FailsStart {V : Type 0} (failed_start : V → HeaderBytes → V → Type 0) (a : State V) (h : HeaderBytes) (b : State V) : Type 0 where
+  at_condition : b.kept ≡ None → IsRefused a h b → FailsStart failed_start a h b
+  at_memory : b.kept ≡ None → IsBound a (header_of h.bytes) b → b.inner ≡ a.inner → FailsStart failed_start a h b
+  inside : b.kept ≡ None → IsBound a (header_of h.bytes) b → failed_start a.inner h b.inner → FailsStart failed_start a h b
 
 -- what is kept lets a feature's buffer through: the condition holds for its feature
 abbrev pub passes : Option Under → Entry → Bool
 passes None e = false
 passes (Some under) e = holds under.bounded under.header (feature_of under.header e.buffer)
+
+-- the entries of a list for which the condition holds
+abbrev pub chosen : Under → List Entry → List Entry
+chosen under es = filter (passes (Some under)) es
 
 -- it takes a feature: the visitor inside takes it where the condition holds, and is as it was elsewhere
 pub record Steps {V : Type 0} (step : V → Entry → V → Type 0) (a : State V) (e : Entry) (b : State V) : Type 0 where

@@ -1,13 +1,16 @@
-ghost use Rattle.std.specs.Prelude.{◌≤◌, length};
+ghost use Rattle.std.specs.Prelude.{◌≡◌, ◌≤◌, length};
+ghost use Rattle.std.specs.Option.{option_map};
+ghost use Rattle.fgb_header.specs.Views.{header_shown};
+ghost use Rattle.found_features.specs.Visits.{TellsOnly};
+ghost use Rattle.fgb_where.specs.Filtering.{Under};
 
 use super::*;
-use box_query::{Collect, QueryDone, QueryError, query};
 use fgb_feature::FeatureView;
 use fgb_header::HeaderView;
-use fgb_outside::MemorySource;
 use flat_views::{Broken, Rule};
-use order_keys::{Bounds, Coord, read_box};
-use std::alloc::{AllocError, Global};
+use found_features::{Collect, Found, VisitError, Visitor};
+use order_keys::{Bounds, Coord};
+use std::alloc::Global;
 use std::test::Fail;
 
 #[test]
@@ -133,9 +136,8 @@ fn refusals(rt: HostRuntime) -> Result<(), Fail> {
     Ok(())
 }
 
-/// The start and the header of a file of type Point, with the column `id` of type ULong and without an index.
-const FRONT: [u8; 96] = [
-    102, 103, 98, 3, 102, 103, 98, 1, 84, 0, 0, 0,
+/// A header of type Point, with the column `id` of type ULong and without an index.
+const POINTS: [u8; 84] = [
     // the root, the vtable of the header, and the header
     32, 0, 0, 0, 24, 0, 11, 0, 0, 0, 0, 0, 10, 0, 0, 0, 0, 0, 0, 0, 0, 0, 4, 0, 0, 0, 8, 0, 0, 0,
     0, 0, 28, 0, 0, 0, 8, 0, 0, 0, 0, 0, 1, 0,
@@ -144,91 +146,92 @@ const FRONT: [u8; 96] = [
     0, 2, 0, 0, 0, 105, 100, 0, 0,
 ];
 
-/// A feature up to its point, behind its size prefix.
-const POINT: [u8; 72] = [
-    100, 0, 0, 0, 16, 0, 0, 0, 8, 0, 12, 0, 4, 0, 8, 0, 0, 0, 0, 0, 12, 0, 0, 0, 28, 0, 0, 0, 60,
-    0, 0, 0, 18, 0, 9, 0, 0, 0, 4, 0, 0, 0, 0, 0, 0, 0, 0, 0, 8, 0, 0, 0, 20, 0, 0, 0, 12, 0, 0, 0,
-    1, 0, 0, 0, 0, 0, 0, 0, 2, 0, 0, 0,
+/// The place of a feature's own number in its buffer.
+const ID: usize = 90;
+
+/// A feature of number 3.
+const POINT: [u8; 100] = [
+    16, 0, 0, 0, 8, 0, 12, 0, 4, 0, 8, 0, 0, 0, 0, 0, 12, 0, 0, 0, 28, 0, 0, 0, 60, 0, 0, 0, 18, 0,
+    9, 0, 0, 0, 4, 0, 0, 0, 0, 0, 0, 0, 0, 0, 8, 0, 0, 0, 20, 0, 0, 0, 12, 0, 0, 0, 1, 0, 0, 0, 0,
+    0, 0, 0, 2, 0, 0, 0,
+    // its point, and its number
+    0, 0, 0, 0, 0, 64, 81, 192, 0, 0, 0, 0, 0, 64, 81, 64, 10, 0, 0, 0, 0, 0, 3, 0, 0, 0, 0, 0, 0,
+    0, 0, 0,
 ];
 
-/// Puts the feature with this number and these patterns of a point behind a file.
-fn put_feature(file: &mut Vec<u8>, number: u8, x: u64, y: u64) -> Result<(), AllocError> {
-    file.extend_from_slice(&POINT)?;
-    file.extend_from_slice(&x.to_le_bytes())?;
-    file.extend_from_slice(&y.to_le_bytes())?;
-    file.extend_from_slice(&[10, 0, 0, 0, 0, 0, number, 0, 0, 0, 0, 0, 0, 0, 0, 0])
-}
-
-/// The file with the first five features of the grid.
-fn grid(alloc: Global) -> Result<Vec<u8>, AllocError> {
-    let mut file = Vec::from_slice(alloc, &FRONT)?;
-    put_feature(&mut file, 0, 0xc066_8000_0000_0000, 0xc056_8000_0000_0000)?;
-    put_feature(&mut file, 1, 0xc061_e000_0000_0000, 0xc042_8000_0000_0000)?;
-    put_feature(&mut file, 2, 0xc05a_8000_0000_0000, 0x4030_0000_0000_0000)?;
-    put_feature(&mut file, 3, 0xc051_4000_0000_0000, 0x4051_4000_0000_0000)?;
-    put_feature(&mut file, 4, 0xc040_0000_0000_0000, 0xc04d_8000_0000_0000)?;
-    Ok(file)
-}
-
-/// What a query of the whole world answers under a condition, its refusal, and what it found.
-fn asked(
-    alloc: Global,
-    text: &str,
-) -> Result<(Result<QueryDone, QueryError>, Option<Broken>, Collect), Fail> {
-    let file = grid(alloc)?;
-    let mut source = MemorySource::new(alloc, &file, &[])?;
-    let Ok(world) = read_box("-180,-90,180,90") else {
-        return Err(Fail::new("no box"));
-    };
-    let Some(condition) = read_condition(text) else {
-        return Err(Fail::new("no condition"));
-    };
-    let mut visitor = WhereVisitor::new(alloc, condition, Collect::new(alloc));
-    let done = query(alloc, &mut source, &world, &mut visitor);
-    let refused = visitor.refused();
-    Ok((done, refused, visitor.into_inner()))
-}
-
-/// The number, the offset, the count of bytes and the box of the i-th feature that was found.
-fn found(collect: &Collect, i: usize) -> Option<(u64, u64, usize, Bounds)> {
-    if i >= collect.len() {
-        return None;
-    }
-    let (number, offset, bytes, bounds) = collect.item(i);
-    Some((number, offset, bytes.len(), bounds))
+/// Hands over the feature of this number.
+fn hand(
+    header: &HeaderView,
+    visitor: &mut WhereVisitor<'_, Collect>,
+    number: u8,
+) -> Result<(), Fail>
+    requires { TellsOnly (header_shown header.now) (option_map (λ (under : Under). under.header) visitor.old.kept) }
+    ensures { option_map (λ (under : Under). under.header) visitor.new.kept ≡ option_map (λ (under : Under). under.header) visitor.old.kept }
+{
+    let mut bytes = POINT;
+    bytes[ID] = number;
+    let bounds = FeatureView::read(&bytes, 0, header)?.bounds();
+    visitor.take(&Found {
+        number: u64::from(number),
+        offset: 104 * u64::from(number),
+        bytes: &bytes,
+        bounds,
+    })?;
+    Ok(())
 }
 
 #[test]
 fn features_for_which_it_holds(rt: HostRuntime) -> Result<(), Fail> {
     let alloc = rt.alloc();
-    let (done, refused, collect) = asked(alloc, "id:ge:3")?;
-    assert_eq!(rt; done, Ok(QueryDone { found: 5 }));
-    assert_eq!(rt; refused, None);
-    assert_eq!(rt; collect.len(), 2);
-    let third = Bounds::of_point(Coord(0xc051_4000_0000_0000), Coord(0x4051_4000_0000_0000));
-    assert_eq!(rt; found(&collect, 0), Some((3, 312, 100, third)));
-    let fourth = Bounds::of_point(Coord(0xc040_0000_0000_0000), Coord(0xc04d_8000_0000_0000));
-    assert_eq!(rt; found(&collect, 1), Some((4, 416, 100, fourth)));
+    let header = HeaderView::read(&POINTS, 12)?;
+    let Some(condition) = read_condition("id:ge:3") else {
+        return Err(Fail::new("no condition"));
+    };
+    let mut visitor = WhereVisitor::new(alloc, condition, Collect::new(alloc));
+    visitor.begin(&header)?;
+    hand(&header, &mut visitor, 2)?;
+    hand(&header, &mut visitor, 3)?;
+    assert_eq!(rt; visitor.refused(), None);
+    let collect = visitor.into_inner();
+    assert_eq!(rt; collect.len(), 1);
+    let (number, offset, bytes, bounds) = collect.item(0);
+    assert_eq!(rt; (number, offset, bytes.len()), (3, 312, 100));
+    assert_eq!(rt;
+        bounds,
+        Bounds::of_point(Coord(0xc051_4000_0000_0000), Coord(0x4051_4000_0000_0000))
+    );
     Ok(())
+}
+
+/// What the visitor begins with under a condition, and its refusal.
+fn begun(alloc: Global, text: &str) -> Result<(Result<(), VisitError>, Option<Broken>), Fail> {
+    let header = HeaderView::read(&POINTS, 12)?;
+    let Some(condition) = read_condition(text) else {
+        return Err(Fail::new("no condition"));
+    };
+    let mut visitor = WhereVisitor::new(alloc, condition, Collect::new(alloc));
+    let begun = visitor.begin(&header);
+    Ok((begun, visitor.refused()))
 }
 
 #[test]
 fn refused_conditions(rt: HostRuntime) -> Result<(), Fail> {
     let alloc = rt.alloc();
-    let (done, refused, collect) = asked(alloc, "pop:eq:1")?;
     let column = Broken {
         place: 44,
         rule: Rule::WhereColumn,
     };
-    assert_eq!(rt; done, Err(QueryError::VisitorStopped));
-    assert_eq!(rt; refused, Some(column));
-    assert_eq!(rt; collect.len(), 0);
-    let (done, refused, _) = asked(alloc, "id:eq:x")?;
+    assert_eq!(rt;
+        begun(alloc, "pop:eq:1")?,
+        (Err(VisitError::Stopped), Some(column))
+    );
     let value = Broken {
         place: 76,
         rule: Rule::WhereValue,
     };
-    assert_eq!(rt; done, Err(QueryError::VisitorStopped));
-    assert_eq!(rt; refused, Some(value));
+    assert_eq!(rt;
+        begun(alloc, "id:eq:x")?,
+        (Err(VisitError::Stopped), Some(value))
+    );
     Ok(())
 }

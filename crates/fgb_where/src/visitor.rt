@@ -1,15 +1,13 @@
 // A visitor that hands on the features for which a condition holds.
 ghost use Rattle.std.specs.Prelude.{◌≡◌, ◌⊎◌, ◌+◌, ◌≤◌, None, Some, OnOk, OnErr, IsErrOf};
 ghost use Rattle.std.specs.Option.{option_map};
-ghost use Rattle.flat_layout.specs.Promises.{Names};
 ghost use Rattle.fgb_outside.specs.Source.{Rose};
 ghost use Rattle.fgb_schema.specs.Headers.{Header};
-ghost use Rattle.fgb_header.specs.Views.{base_shown, header_shown, source_of};
+ghost use Rattle.fgb_header.specs.Views.{header_shown};
 ghost use Rattle.found_features.specs.Entries.{IsSound};
-ghost use Rattle.found_features.specs.Lent.{entry_of};
+ghost use Rattle.found_features.specs.Lent.{entry_of, header_bytes};
 ghost use Rattle.found_features.specs.Visits.{TellsOnly};
-ghost use Rattle.fgb_where.specs.Binding.{BreaksCondition};
-ghost use Rattle.fgb_where.specs.Filtering.{FailsStart, FailsStep, RefusesNow, Starts, Steps, Under, passes};
+ghost use Rattle.fgb_where.specs.Filtering.{FailsStart, FailsStep, IsRefused, Starts, Steps, Under, passes};
 
 use crate::kept::Kept;
 use crate::words::Condition;
@@ -106,13 +104,13 @@ impl<'a, V: Visitor> Visitor for WhereVisitor<'a, V> {
 
     fn begin(&mut self, header: &HeaderView) -> Result<(), VisitError>
         ensures started { OnOk result (Starts V.start self.old (header_shown header.now) self.new) }
-        ensures failed { OnErr result (FailsStart V.failed_start self.old (header_shown header.now) self.new) }
+        ensures failed { OnErr result (FailsStart V.failed_start self.old (header_bytes header.now) self.new) }
         ensures told { OnOk result (TellsOnly (header_shown header.now) (option_map (λ (under : Under). under.header) self.new.kept)) }
         ensures later { V.stops self.old.inner + self.old.refusals ≤ V.stops self.new.inner + self.new.refusals }
         ensures stopped { IsErrOf result VisitError.Stopped → Rose (V.stops self.old.inner + self.old.refusals) (V.stops self.new.inner + self.new.refusals) }
         // it stops at a rule that the condition breaks, which is then what `refused` gives, or where the visitor inside does
         ensures cause { IsErrOf result VisitError.Stopped
-            → RefusesNow (base_shown header.now) (source_of header.now) self.old self.new ⊎ Rose (V.stops self.old.inner) (V.stops self.new.inner) }
+            → IsRefused self.old (header_bytes header.now) self.new ⊎ Rose (V.stops self.old.inner) (V.stops self.new.inner) }
     {
         self.kept = None;
         let bound = match self.condition.bind(header) {

@@ -4,7 +4,7 @@ use Rattle.std.specs.List.{filter, concat}
 use Rattle.std.proofs.lemmas.List.{append-nil}
 use Rattle.std.proofs.lemmas.List.Elements.{filter-append}
 use Rattle.order_keys.specs.declared.bounds.Bounds.{Bounds}
-use Rattle.order_keys.specs.Boxes.{meets}
+use Rattle.box_list.specs.Lists.{meets_any}
 use Rattle.fgb_schema.specs.Headers.{Header}
 use Rattle.fgb_file.specs.File.{box_of}
 use Rattle.found_features.specs.Entries.{Entry, entries, found}
@@ -34,9 +34,9 @@ module _ (header : Header) where
   abbrev pub next_entry : List (List ℕ) → List ℕ → Entry
   next_entry ws piece = record { number = length ws; offset = length (concat ws); buffer = slice_range piece 4 (length piece); own = box_of header piece }
 
-  module _ (query : Bounds) where
+  module _ (query : List Bounds) where
     abbrev test : Entry → Bool
-    test e = meets e.own query
+    test e = meets_any query e.own
 
     -- the found ones among more pieces, behind others
     abbrev pub found_behind : List (List ℕ) → List (List ℕ) → List Entry
@@ -50,15 +50,15 @@ module _ (header : Header) where
         ∙ ap (λ n. found header query ws ++ filter test (entries header n (0 + length (concat ws)) ps)) (zero-add (length ws))
         ∙ ap (λ o. found header query ws ++ filter test (entries header (length ws) o ps)) (zero-add (length (concat ws)))
 
-    -- one more piece adds its entry where its own box meets the box that is sought, and else nothing
-    pub found_hit : (ws : List (List ℕ)) (piece : List ℕ) → meets (box_of header piece) query ≡ true → found header query (ws ++ piece ∷ []) ≡ found header query ws ++ next_entry ws piece ∷ []
+    -- one more piece adds its entry where its own box meets one of the boxes that are sought, and else nothing
+    pub found_hit : (ws : List (List ℕ)) (piece : List ℕ) → meets_any query (box_of header piece) ≡ true → found header query (ws ++ piece ∷ []) ≡ found header query ws ++ next_entry ws piece ∷ []
     found_hit ws piece hit = found-append ws (piece ∷ []) ∙ ap (λ es. found header query ws ++ es) (one hit)
       where
-        one : meets (box_of header piece) query ≡ true → found_behind ws (piece ∷ []) ≡ next_entry ws piece ∷ []
+        one : meets_any query (box_of header piece) ≡ true → found_behind ws (piece ∷ []) ≡ next_entry ws piece ∷ []
         one e = rw e refl
 
-    pub found_miss : (ws : List (List ℕ)) (piece : List ℕ) → meets (box_of header piece) query ≡ false → found header query (ws ++ piece ∷ []) ≡ found header query ws
+    pub found_miss : (ws : List (List ℕ)) (piece : List ℕ) → meets_any query (box_of header piece) ≡ false → found header query (ws ++ piece ∷ []) ≡ found header query ws
     found_miss ws piece miss = found-append ws (piece ∷ []) ∙ ap (λ es. found header query ws ++ es) (none miss) ∙ append-nil (found header query ws)
       where
-        none : meets (box_of header piece) query ≡ false → found_behind ws (piece ∷ []) ≡ []
+        none : meets_any query (box_of header piece) ≡ false → found_behind ws (piece ∷ []) ≡ []
         none e = rw e refl

@@ -2,7 +2,7 @@
 use Rattle.std.specs.Prelude.{◌≡◌, ℕ, ◌+◌, ◌≤◌, List, [], ◌∷◌, length, slice_range}
 use Rattle.std.specs.List.{filter}
 use Rattle.order_keys.specs.declared.bounds.Bounds.{Bounds}
-use Rattle.order_keys.specs.Boxes.{meets}
+use Rattle.box_list.specs.Lists.{meets_any}
 use Rattle.flat_layout.specs.Promises.{IsClean}
 use Rattle.fgb_schema.specs.Paths.{feature_root}
 use Rattle.fgb_schema.specs.Weights.{BreaksBuffer}
@@ -23,9 +23,9 @@ entries header number offset [] = []
 entries header number offset (piece ∷ rest) =
     record { number = number; offset = offset; buffer = slice_range piece 4 (length piece); own = box_of header piece } ∷ entries header (number + 1) (offset + length piece) rest
 
--- those whose own box meets the box of the query, in file order
-abbrev pub found : Header → Bounds → List (List ℕ) → List Entry
-found header query pieces = filter (λ e. meets e.own query) (entries header 0 0 pieces)
+-- those whose own box meets one of the boxes of the query, in file order, each once
+abbrev pub found : Header → List Bounds → List (List ℕ) → List Entry
+found header query pieces = filter (λ e. meets_any query e.own) (entries header 0 0 pieces)
 
 -- the buffer breaks no rule under the header, and the box is the feature's own
 pub record IsSound (header : Header) (e : Entry) : Type 0 where

@@ -1,8 +1,13 @@
 -- What a visitor does with the features that it is handed: by the relations of its states that its type gives, from the
 -- state before a call to that after it.
-use Rattle.std.specs.Prelude.{◌≡◌, List, [], ◌∷◌, ◌++◌, Option, Some}
+use Rattle.std.specs.Prelude.{◌≡◌, ℕ, List, [], ◌∷◌, ◌++◌, Option, Some}
 use Rattle.fgb_schema.specs.Headers.{Header}
 use Rattle.found_features.specs.Entries.{Entry}
+
+-- the bytes of a header, the first of which stands here
+pub record HeaderBytes : Type 0 where
+  pub place : ℕ
+  pub bytes : List ℕ
 
 -- it takes these entries, one after another
 abbrev pub Takes : {V : Type 0} → (V → Entry → V → Type 0) → V → List Entry → V → Type 0
@@ -34,7 +39,7 @@ abbrev pub Handed : {V : Type 0} → (V → Entry → V → Type 0) → (V → E
 Handed step failed_step v w = (due : List Entry) × TakesPart step failed_step v due w
 
 -- it was left alone, failed to begin, or began with some header and was handed features
-pub data Visits {V : Type 0} (start failed_start : V → Header → V → Type 0) (step failed_step : V → Entry → V → Type 0) (v w : V) : Type 0 where
+pub data Visits {V : Type 0} (start : V → Header → V → Type 0) (failed_start : V → HeaderBytes → V → Type 0) (step failed_step : V → Entry → V → Type 0) (v w : V) : Type 0 where
   untouched : w ≡ v → Visits start failed_start step failed_step v w
-  no_start : {header : Header} → failed_start v header w → Visits start failed_start step failed_step v w
+  no_start : {header : HeaderBytes} → failed_start v header w → Visits start failed_start step failed_step v w
   begun : {header : Header} → Begins start v header (λ u. Handed step failed_step u w) → Visits start failed_start step failed_step v w

@@ -5,8 +5,8 @@ ghost use Rattle.fgb_schema.specs.Headers.{Header};
 ghost use Rattle.fgb_header.specs.Views.{header_shown};
 ghost use Rattle.found_features.specs.declared.visitor.VisitError.TheVariants.{Memory, Stopped};
 ghost use Rattle.found_features.specs.Entries.{Entry, IsSound};
-ghost use Rattle.found_features.specs.Visits.{TellsOnly};
-ghost use Rattle.found_features.specs.Lent.{entry_of};
+ghost use Rattle.found_features.specs.Visits.{HeaderBytes, TellsOnly};
+ghost use Rattle.found_features.specs.Lent.{entry_of, header_bytes};
 
 use fgb_header::HeaderView;
 use order_keys::Bounds;
@@ -53,10 +53,10 @@ impl<T: Drop> From<AllocFailed<T>> for VisitError {
 /// Takes the features that are found, one after another.
 pub trait Visitor {
     // The visitor before a call of `begin` that succeeds, the header, and the visitor after it; and the same of a call
-    // that fails.
+    // that fails, with the header's bytes.
     ghost start: { Self → Header → Self → Type 0 };
 
-    ghost failed_start: { Self → Header → Self → Type 0 };
+    ghost failed_start: { Self → HeaderBytes → Self → Type 0 };
 
     // The same of `take` and the feature.
     ghost step: { Self → Entry → Self → Type 0 };
@@ -72,7 +72,7 @@ pub trait Visitor {
     /// Begins with the features of a file with this header. Called once, before any feature is taken.
     fn begin(&mut self, header: &HeaderView) -> Result<(), VisitError>
         ensures started { OnOk result (start self.old (header_shown header.now) self.new) }
-        ensures failed { OnErr result (failed_start self.old (header_shown header.now) self.new) }
+        ensures failed { OnErr result (failed_start self.old (header_bytes header.now) self.new) }
         ensures told { OnOk result (TellsOnly (header_shown header.now) (told self.new)) }
         ensures later { stops self.old ≤ stops self.new }
         ensures stopped { IsErrOf result Stopped → Rose (stops self.old) (stops self.new) };

@@ -1,6 +1,6 @@
 -- A step to the next feature.
 use Rattle.std.proofs.Common.{◌≡◌, ◌⊎◌, ℕ, ◌+◌, ◌-◌, ◌<◌, ◌≤◌, max, Bool, inl, inr, List, [], ◌∷◌, ◌++◌, length, take, drop, get_or, Some, refl, sym, ap, subst, ◌∙◌, arith}
-use Rattle.std.specs.Prelude.{Result, OnErr, if◌then◌else◌, slice_get, None}
+use Rattle.std.specs.Prelude.{Result, OnErr, if◌then◌else◌, slice_get, slice_range, None}
 use Rattle.std.specs.List.{range_with_len}
 use Rattle.std.proofs.lemmas.List.{length-drop, drop_more, take_all, append-nil}
 use Rattle.std.proofs.lemmas.Option.{slice_get-get_or}
@@ -8,17 +8,21 @@ use Rattle.fgb_outside.specs.Source.{Source, IfTold}
 use Rattle.fgb_outside.specs.Asked.{IsInside, ReadsFront, Ascends}
 use Rattle.fgb_outside.proofs.Asking.{ascends_range, ascends_wider, front_along, front_nothing, reads_front, reads_nothing}
 use Rattle.section_window.specs.Window.{ahead}
+use Rattle.section_window.proofs.Parts.{length_slice}
 use Rattle.section_window.proofs.Showing.{ahead_passed, shows_passed}
 use Rattle.fgb_file.specs.File.{size_at}
+use Rattle.fgb_schema.specs.Headers.{Header}
+use Rattle.order_keys.specs.declared.bounds.Bounds.{Bounds}
+use Rattle.found_features.specs.Entries.{IsSound}
 use Rattle.level_bounds.specs.Levels.{Shape}
 use Rattle.gap_window.specs.Bridging.{Bridging, gone, asks_from}
 use Rattle.gap_window.specs.Gaps.{bridged_behind}
 use Rattle.hit_reader.specs.declared.section.Section.{Section}
 use Rattle.hit_reader.specs.Rising.{Rises, RisesPart}
-use Rattle.hit_runs.specs.declared.hit.Hit.{Hit}
+use Rattle.box_search.specs.declared.nodes.Hit.{Hit}
 use Rattle.hit_runs.specs.declared.runs.HitRuns.{HitRuns}
 use Rattle.hit_runs.specs.Laid.{place_said, end_there, hit_positions, run_end, AreLaid}
-use Rattle.hit_runs.specs.Leaves.{IsLeaf, IsDue}
+use Rattle.hit_runs.specs.Leaves.{IsAlike, IsLeaf, IsDue}
 use Rattle.hit_runs.specs.Fetching.{Fetches, FetchesPart, IsOver}
 use Rattle.hit_runs.specs.Runs.{IsAgain, IsTurn, Owes, Pays, next_of, rest_of}
 use Rattle.hit_reader.specs.Going.{IsSection}
@@ -220,7 +224,14 @@ more_is hits slice i n hit same within is all =
 pub later_is : (hits slice : List Hit) (i n : ℕ) → slice ≡ hits → length hits - i ≤ n → drop i hits ≡ take n (drop i slice)
 later_is hits slice i n same all = sym (take_all n (drop i hits) (omega (arith, length-drop i hits, all))) ∙ ap (λ l. take n (drop i l)) (sym same)
 
-pub is_again : {T E : Type 0} (r : Result T E) (section : Section) (runs runs' : HitRuns) (s : Source) → runs'.given ≡ runs.given
+pub is_again : {T E : Type 0} (r : Result T E) (section : Section) (runs runs' : HitRuns) (s : Source) → runs.given < length runs.hits.items → runs'.given ≡ runs.given
     → IfTold s (λ image. (t : Shape) (k : ℕ) (hit : Hit) → IsSection image t section → IsTurn runs hit → IsLeaf image t hit k → IsDue image t k (next_of runs) → IsDue image t k (next_of runs'))
     → OnErr r (IsAgain section runs runs' s)
-is_again r section runs runs' s given due = on_err r (IsAgain section runs runs' s) (record { given = given; due = due })
+is_again r section runs runs' s left given due = on_err r (IsAgain section runs runs' s) (record { left = left; given = given; due = due })
+
+-- what is lent breaks no rule
+pub sound_lent : (header : Header) (hit : Hit) (number offset len : ℕ) (own : Bounds) (lent bytes : List ℕ) → lent ≡ bytes → len ≤ length bytes → len ≤ 268435460 → IsAlike header hit (slice_range lent 4 len) own
+    → IsSound header (record { number = number; offset = offset; buffer = slice_range bytes 4 len; own = own })
+sound_lent header hit number offset len own lent bytes held whole small alike =
+    let there : IsAlike header hit (slice_range bytes 4 len) own = subst (λ b. IsAlike header hit (slice_range b 4 len) own) held alike in
+    record { small = omega (arith, length_slice bytes 4 len whole, small); clean = there.clean; box = there.box }

@@ -7,7 +7,7 @@ use Rattle.section_window.proofs.Parts.{range_join}
 use Rattle.fgb_file.specs.File.{size_at}
 use Rattle.gap_window.specs.Gaps.{hole, bridged_behind, behind}
 use Rattle.gap_window.proofs.Bridges.{behind_append, behind_range, range_ends}
-use Rattle.hit_runs.specs.declared.hit.Hit.{Hit}
+use Rattle.box_search.specs.declared.nodes.Hit.{Hit}
 use Rattle.hit_runs.specs.Laid.{place_said, end_there, hit_positions, is_joined, run_end, AreLaid, SaysEnd}
 
 -- joined features elsewhere

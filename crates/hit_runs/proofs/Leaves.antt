@@ -21,7 +21,7 @@ use Rattle.found_features.specs.Entries.{Entry}
 use Rattle.hit_reader.specs.declared.section.Section.{Section}
 use Rattle.hit_reader.specs.Met.{BreaksHit, IsMet, entry_at, leaf_past_end, leaf_order, in_feature, unlike, leaf_place}
 use Rattle.hit_reader.specs.Going.{IsSection, IsBehind, at_first, at_end}
-use Rattle.hit_runs.specs.declared.hit.Hit.{Hit}
+use Rattle.box_search.specs.declared.nodes.Hit.{Hit}
 use Rattle.hit_runs.specs.Leaves.{IsLeaf, IsAlike, RefusesRead, in_buffer, in_box, IsDue, behind, reached}
 
 -- the buffer of the feature at a place, which lies in the window behind its size prefix

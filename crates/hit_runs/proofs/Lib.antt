@@ -5,3 +5,5 @@ pub mod Leaves
 pub mod Owing
 pub mod Places
 pub mod Refusing
+pub mod Rising
+pub mod Visiting

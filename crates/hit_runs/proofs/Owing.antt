@@ -13,7 +13,7 @@ use Rattle.gap_window.specs.Bridging.{Bridging, asks_from}
 use Rattle.gap_window.specs.Gaps.{hole, bridged_behind}
 use Rattle.gap_window.proofs.Bridges.{no_hole}
 use Rattle.gap_window.proofs.Near.{near_within, near_behind, asks_near, asks_far}
-use Rattle.hit_runs.specs.declared.hit.Hit.{Hit}
+use Rattle.box_search.specs.declared.nodes.Hit.{Hit}
 use Rattle.hit_runs.specs.Laid.{place_said, end_there, hit_positions, is_joined, run_end, AreLaid}
 use Rattle.hit_runs.proofs.Ending.{one_more, run_first, end_in_run, hole_joined, hole_parted}
 

@@ -13,7 +13,7 @@ use Rattle.fgb_file.proofs.Opening.{open_inside}
 use Rattle.fgb_file.proofs.Passing.{agrees_tells}
 use Rattle.fgb_file.proofs.Walk.{all-rest}
 use Rattle.hit_reader.specs.Asking.{feature_positions}
-use Rattle.hit_runs.specs.declared.hit.Hit.{Hit}
+use Rattle.box_search.specs.declared.nodes.Hit.{Hit}
 use Rattle.hit_runs.specs.Laid.{place_said, end_there, hit_positions, SaysEnd, AreLaid}
 use Rattle.hit_runs.specs.Leaves.{IsLeaf, TellsNext, AreLeaves}
 

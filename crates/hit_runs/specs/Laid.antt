@@ -2,7 +2,7 @@
 use Rattle.std.specs.Prelude.{◌≡◌, ⊤, ℕ, ◌+◌, ◌≤◌, nat_lt, max, if◌then◌else◌, Bool, List, [], ◌∷◌, Some}
 use Rattle.std.specs.List.{flat_map, range_with_len}
 use Rattle.fgb_file.specs.File.{size_at}
-use Rattle.hit_runs.specs.declared.hit.Hit.{Hit}
+use Rattle.box_search.specs.declared.nodes.Hit.{Hit}
 
 -- where the leaf says that its feature stands, the first of all being there, and where a feature ends that does so
 abbrev pub place_said : ℕ → Hit → ℕ

@@ -12,7 +12,7 @@ use Rattle.fgb_schema.specs.Weights.{BreaksBuffer}
 use Rattle.fgb_schema.specs.Features.{feature_of, own_box}
 use Rattle.fgb_file.specs.File.{leaf_in, leaf_target}
 use Rattle.hit_reader.specs.Going.{IsBehind}
-use Rattle.hit_runs.specs.declared.hit.Hit.{Hit}
+use Rattle.box_search.specs.declared.nodes.Hit.{Hit}
 
 -- the hit is leaf k of the file's index
 pub record IsLeaf (image : List ℕ) (t : Shape) (hit : Hit) (k : ℕ) : Type 0 where

@@ -1,5 +1,5 @@
 -- Going through the features of leaves that were found.
-use Rattle.std.specs.Prelude.{◌≡◌, ℕ, ◌+◌, ◌-◌, ◌*◌, ◌≤◌, ◌^◌, if◌then◌else◌, List, ◌++◌, length, drop, slice_get, slice_range, Option, Some, None}
+use Rattle.std.specs.Prelude.{◌≡◌, ℕ, ◌+◌, ◌-◌, ◌*◌, ◌<◌, ◌≤◌, ◌^◌, if◌then◌else◌, List, ◌++◌, length, drop, slice_get, slice_range, Option, Some, None}
 use Rattle.std.specs.List.{AllByRecursion, range_with_len}
 use Rattle.flat_layout.specs.declared.Broken.{Broken}
 use Rattle.level_bounds.specs.Levels.{Shape}
@@ -7,11 +7,12 @@ use Rattle.fgb_outside.specs.Source.{Source, IfTold}
 use Rattle.fgb_outside.specs.Asked.{IsInside, Reads}
 use Rattle.section_window.specs.Window.{ahead}
 use Rattle.gap_window.specs.Gaps.{bridged_behind}
-use Rattle.found_features.specs.Entries.{Entry}
+use Rattle.fgb_header.specs.Views.{header_shown}
+use Rattle.found_features.specs.Entries.{Entry, IsSound}
 use Rattle.hit_reader.specs.declared.section.Section.{Section}
 use Rattle.hit_reader.specs.Going.{IsBehind, IsSection}
 use Rattle.hit_reader.specs.Met.{BreaksHit, IsMet, entry_at}
-use Rattle.hit_runs.specs.declared.hit.Hit.{Hit}
+use Rattle.box_search.specs.declared.nodes.Hit.{Hit}
 use Rattle.hit_runs.specs.declared.runs.HitRuns.{HitRuns}
 use Rattle.hit_runs.specs.Laid.{hit_positions}
 use Rattle.hit_runs.specs.Leaves.{IsLeaf, IsDue}
@@ -38,12 +39,14 @@ pub record Goes (section : Section) (runs : HitRuns) (source : Source) : Type 0 
 abbrev pub IsTurn : HitRuns → Hit → Type 0
 IsTurn runs hit = slice_get runs.hits.items runs.given ≡ Some hit
 
--- it came to the feature that was due, that of the leaf whose place in the list is the number of those given before
+-- it came to the feature that was due, that of the leaf whose place in the list is the number of those given before;
+-- whatever the bytes, what it lends breaks no rule under the section's header
 pub record ComesTo (section : Section) (runs runs' : HitRuns) (s : Source) : Type 0 where
   pub hit : Hit
   pub turn : IsTurn runs hit
   pub given : runs'.given ≡ runs.given + 1
   pub some : 4 ≤ runs'.len
+  pub sound : IsSound (header_shown section.header.now) (entry_of runs')
   pub lends : IfTold s (λ image. (t : Shape) (k : ℕ) → IsSection image t section → IsLeaf image t hit k
       → (entry_of runs' ≡ entry_at image t k) × IsMet image t k × IsBehind image t (k + 1) (next_of runs'))
 
@@ -53,8 +56,9 @@ pub record HasEnded (runs runs' : HitRuns) : Type 0 where
   pub same : runs'.given ≡ runs.given
   pub place : next_of runs' ≡ next_of runs
 
--- the same feature is due again
+-- a feature was due, and the same is due again
 pub record IsAgain (section : Section) (runs runs' : HitRuns) (s : Source) : Type 0 where
+  pub left : runs.given < length runs.hits.items
   pub given : runs'.given ≡ runs.given
   pub due : IfTold s (λ image. (t : Shape) (k : ℕ) (hit : Hit) → IsSection image t section → IsTurn runs hit → IsLeaf image t hit k
       → IsDue image t k (next_of runs) → IsDue image t k (next_of runs'))

@@ -4,8 +4,8 @@ ghost use Rattle.std.specs.List.{AllByRecursion};
 ghost use Rattle.section_window.specs.Window.{ahead};
 ghost use Rattle.hit_runs.specs.Laid.{AreLaid, SaysEnd, end_there, is_joined as joined, run_end};
 
-use crate::hit::Hit;
 use crate::judge::said_place;
+use box_search::Hit;
 use fgb_reader::PREFIX;
 use gap_window::GapWindow;
 use hit_reader::Section;

@@ -9,7 +9,7 @@ ghost use Rattle.hit_runs.specs.Laid.{AreLaid, run_end};
 ghost use Rattle.hit_runs.specs.Fetching.{Fetches, FetchesPart, IsOver};
 
 use crate::extent::{until_part, until_whole};
-use crate::hit::Hit;
+use box_search::Hit;
 use fgb_outside::RangeSource;
 use fgb_reader::{PREFIX, framed_size};
 use found_features::QueryError;

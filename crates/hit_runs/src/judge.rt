@@ -5,7 +5,7 @@ ghost use Rattle.fgb_header.specs.Views.{header_shown};
 ghost use Rattle.found_features.specs.Stops.{IfRefused};
 ghost use Rattle.hit_runs.specs.Leaves.{IsAlike, RefusesRead};
 
-use crate::hit::Hit;
+use box_search::Hit;
 use fgb_feature::FeatureView;
 use fgb_reader::PREFIX;
 use flat_views::{Broken, Rule};

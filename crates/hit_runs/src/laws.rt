@@ -4,7 +4,7 @@ ghost use Rattle.fgb_outside.specs.Asked.{Ascends};
 ghost use Rattle.level_bounds.specs.Levels.{Shape};
 ghost use Rattle.fgb_file.specs.File.{IsFile, first_place};
 ghost use Rattle.hit_reader.specs.Asking.{feature_positions};
-ghost use Rattle.hit_runs.specs.declared.hit.Hit.{Hit};
+ghost use Rattle.box_search.specs.declared.nodes.Hit.{Hit};
 ghost use Rattle.hit_runs.specs.Laid.{AreLaid, hit_positions};
 ghost use Rattle.hit_runs.specs.Leaves.{AreLeaves};
 

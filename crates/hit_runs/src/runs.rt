@@ -9,8 +9,8 @@ ghost use Rattle.hit_reader.specs.Rising.{Rises, RisesPart};
 ghost use Rattle.hit_runs.specs.Laid.{AreLaid};
 
 use crate::fetch::fetch;
-use crate::hit::Hit;
 use crate::judge::{due_place, judge};
+use box_search::Hit;
 use fgb_outside::RangeSource;
 use fgb_reader::PREFIX;
 use found_features::{Found, QueryError};

@@ -1,10 +1,11 @@
 ghost use Rattle.std.specs.Prelude.{◌≡◌};
 
 use super::*;
+use box_search::Hit;
 use fgb_header::HeaderView;
 use fgb_outside::{MemorySource, RangeSource};
 use flat_views::{Broken, Rule};
-use found_features::QueryError;
+use found_features::{Collect, QueryError};
 use hit_reader::Section;
 use node_items::NodeItem;
 use order_keys::{Bounds, Coord};
@@ -77,6 +78,37 @@ fn a_short_hole_is_read(rt: HostRuntime) -> Result<(), Fail> {
         (3, 264, 84)
     );
     assert_eq!(rt; runs.advance(&section, &mut source), Ok(false));
+    assert_eq!(rt; source.asked(), [(100, 268), (368, 84)].as_slice());
+    Ok(())
+}
+
+#[test]
+fn features_are_handed_over(rt: HostRuntime) -> Result<(), Fail> {
+    let alloc = rt.alloc();
+    let bytes = features(alloc)?;
+    let header = HeaderView::read(&HEADER, 12)?;
+    let section = Section {
+        header: &header,
+        leaves: 60,
+        first: 100,
+        end: 452,
+    };
+    let mut source = MemorySource::new(alloc, &bytes, &[])?;
+    assert_eq!(rt; source.size(), 452);
+    let mut visitor = Collect::new(alloc);
+    let hits = [
+        leaf(0, 0, Some(88)),
+        leaf(1, 88, Some(176)),
+        leaf(3, 264, None),
+    ]
+    .to_vec(alloc)?;
+    assert_eq!(rt;
+        take_hits(alloc, &section, hits, 89, &mut source, &mut visitor),
+        Ok(())
+    );
+    assert_eq!(rt; visitor.len(), 3);
+    let origin = Bounds::of_point(Coord(0), Coord(0));
+    assert_eq!(rt; visitor.item(2), (3, 264, &FEATURE[4..], origin));
     assert_eq!(rt; source.asked(), [(100, 268), (368, 84)].as_slice());
     Ok(())
 }

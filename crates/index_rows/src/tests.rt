@@ -3,3 +3,4 @@ use super::*;
 mod indexed;
 mod packed;
 mod reported;
+mod several;

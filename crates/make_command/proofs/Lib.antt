@@ -1,3 +1,4 @@
+mod Around
 mod Packing
 mod Refusals
 mod Requests

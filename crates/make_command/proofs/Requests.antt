@@ -15,8 +15,10 @@ use Rattle.fgb_outside.specs.Asked.{Ascends, Reads, positions}
 use Rattle.fgb_outside.proofs.Asking.{range_with_len-append}
 use Rattle.fgb_file.specs.File.{IsDeclared, IsFile, IsOpen, IsIndex, IsValid, header_end, node_in, present}
 use Rattle.fgb_file.proofs.Valid.{valid_file}
-use Rattle.tree_search.specs.Wanted.{is_wanted, meets_box, node_positions, wanted, wanted_nodes}
-use Rattle.box_query.specs.Needed.{AsksSearch, needed, wanted_positions}
+use Rattle.gap_window.proofs.Bridges.{bridged_zero}
+use Rattle.box_list.specs.Lists.{meets_any}
+use Rattle.tree_search.specs.Wanted.{is_wanted, node_positions, wanted, wanted_nodes}
+use Rattle.box_query.specs.Needed.{AsksSearch, asked as asked_positions, asked_nodes, wanted_positions}
 
 ascends_few : (low high : ℕ) (xs : List ℕ) → Ascends low high xs → low + length xs ≤ high
 ascends_few low high [] up = omega (arith, up)
@@ -88,50 +90,51 @@ told_pairs s' pairs more is told =
 tree_inside : {image : List ℕ} {t : Shape} → IsIndex image (Some t) → header_end image + 40 * node_count t ≤ length image
 tree_inside (present has tree) = tree.inside
 
-module _ (image : List ℕ) (box : Bounds) (s s' : Source) (new : s.asked ≡ Some []) where
-  searched_few : (t : Shape) (pieces : List (List ℕ)) → IsFile image (Some t) pieces → (r : Reads (IsDeclared image) s s' (needed image (Some t) box)) → AsksSearch image t box s s'
-      → length (needed image (Some t) box) < 2 ^ 64
+module _ (image : List ℕ) (boxes : List Bounds) (s s' : Source) (new : s.asked ≡ Some []) where
+  searched_few : (t : Shape) (pieces : List (List ℕ)) → IsFile image (Some t) pieces → (r : Reads (IsDeclared image) s s' (asked_positions image (Some t) boxes 0)) → AsksSearch image t boxes 0 s s'
+      → length (asked_positions image (Some t) boxes 0) < 2 ^ 64
   searched_few t pieces file r search =
       let head = range_with_len 0 (header_end image) in
-      let nodes = wanted_positions image t box in
+      let nodes = asked_nodes image t boxes 0 in
       let same : search.reads.pairs ≡ r.pairs = told_pairs s'.asked r.pairs search.reads.pairs (r.told ∙ ap (λ a. added a r.pairs) new) (λ is. search.reads.told is ∙ ap (λ a. added a search.reads.pairs) new) in
-      let asked : needed image (Some t) box ++ search.reads.rest ≡ head ++ nodes ++ search.behind
+      let asked : asked_positions image (Some t) boxes 0 ++ search.reads.rest ≡ head ++ nodes ++ search.behind
       = ap (λ ps. ps ++ search.reads.rest) (sym r.asks ∙ ap positions (sym same)) ∙ search.reads.asks in
-      let sum : length (needed image (Some t) box) + length search.reads.rest ≡ (length head + length nodes) + length search.behind
-      = sym (length-append (needed image (Some t) box) search.reads.rest) ∙ ap length asked
+      let sum : length (asked_positions image (Some t) boxes 0) + length search.reads.rest ≡ (length head + length nodes) + length search.behind
+      = sym (length-append (asked_positions image (Some t) boxes 0) search.reads.rest) ∙ ap length asked
       ∙ length-append (head ++ nodes) search.behind ∙ ap (λ n. n + length search.behind) (length-append head nodes) in
       let inside : header_end image + 40 * node_count t ≤ length image = tree_inside file.opened.between in
       omega (
         arith,
         sum,
         length-range_with_len 0 (header_end image),
-        positions_long (header_end image) (wanted_nodes t (node_in image) (meets_box box)),
-        wanted_few t (node_in image) (meets_box box),
+        ap length (bridged_zero (wanted_positions image t boxes)),
+        positions_long (header_end image) (wanted_nodes t (node_in image) (meets_any boxes)),
+        wanted_few t (node_in image) (meets_any boxes),
         inside,
         ascends_few _ _ search.behind search.rises,
         file.opened.header.start.sized.short,
       )
 
-  whole_few : (pieces : List (List ℕ)) → IsFile image None pieces → length (needed image None box) < 2 ^ 64
-  unfolding needed
+  whole_few : (pieces : List (List ℕ)) → IsFile image None pieces → length (asked_positions image None boxes 0) < 2 ^ 64
+  unfolding asked_positions
   whole_few pieces file = omega (arith, length-range_with_len 0 (length image), file.opened.header.start.sized.short)
 
-  pub needed_few : (index : Option Shape) (pieces : List (List ℕ)) → IsFile image index pieces → Reads (IsDeclared image) s s' (needed image index box)
-      → ((t : Shape) → IsOpen image (Some t) → AsksSearch image t box s s') → length (needed image index box) < 2 ^ 64
+  pub needed_few : (index : Option Shape) (pieces : List (List ℕ)) → IsFile image index pieces → Reads (IsDeclared image) s s' (asked_positions image index boxes 0)
+      → ((t : Shape) → IsOpen image (Some t) → AsksSearch image t boxes 0 s s') → length (asked_positions image index boxes 0) < 2 ^ 64
   needed_few None pieces file r search = whole_few pieces file
   needed_few (Some t) pieces file r search = searched_few t pieces file r (search t file.opened)
 
   -- the pairs that are lent are those that were asked for
-  pub lent_all : (index : Option Shape) (lent : List (ℕ × ℕ)) → Reads (IsDeclared image) s s' (needed image index box) → IfSome s'.asked (λ pairs. lent ≡ pairs)
-      → length (positions lent) ≡ length (needed image index box)
+  pub lent_all : (index : Option Shape) (lent : List (ℕ × ℕ)) → Reads (IsDeclared image) s s' (asked_positions image index boxes 0) → IfSome s'.asked (λ pairs. lent ≡ pairs)
+      → length (positions lent) ≡ length (asked_positions image index boxes 0)
   lent_all index lent r are =
       let told : s'.asked ≡ Some r.pairs = r.told ∙ ap (λ a. added a r.pairs) new in
       let same : lent ≡ r.pairs = subst (λ o. IfSome o (λ pairs. lent ≡ pairs)) told are in
       ap (λ pairs. length (positions pairs)) same ∙ ap length r.asks
 
   -- their positions are not too many to be counted
-  pub lent_few : IsValid image → ((index : Option Shape) (pieces : List (List ℕ)) → IsFile image index pieces → Reads (IsDeclared image) s s' (needed image index box))
-      → ((t : Shape) → IsOpen image (Some t) → AsksSearch image t box s s') → (lent : List (ℕ × ℕ)) → IfSome s'.asked (λ pairs. lent ≡ pairs) → length (positions lent) < 2 ^ 64
+  pub lent_few : IsValid image → ((index : Option Shape) (pieces : List (List ℕ)) → IsFile image index pieces → Reads (IsDeclared image) s s' (asked_positions image index boxes 0))
+      → ((t : Shape) → IsOpen image (Some t) → AsksSearch image t boxes 0 s s') → (lent : List (ℕ × ℕ)) → IfSome s'.asked (λ pairs. lent ≡ pairs) → length (positions lent) < 2 ^ 64
   lent_few valid reads search lent are =
       let file = valid_file image valid in let r = reads file.0 file.1 file.2 in
       subst (λ n. n < 2 ^ 64) (sym (lent_all file.0 lent r are)) (needed_few file.0 file.1 file.2 r search)

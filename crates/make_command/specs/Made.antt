@@ -6,7 +6,7 @@ use Rattle.fgb_schema.specs.Features.{Feature}
 use Rattle.fgb_outside.specs.Sink.{Sink, Appends, AppendsPart}
 use Rattle.fgb_file.specs.File.{header_in, nodes_of}
 use Rattle.found_features.specs.Entries.{found}
-use Rattle.box_query.specs.Needed.{needed}
+use Rattle.box_query.specs.Needed.{asked as asked_positions}
 use Rattle.text_query.specs.Texts.{answer}
 use Rattle.text_query.specs.declared.output.Output.TheVariants.{Lines}
 use Rattle.packed_file.specs.Packing.{IsPacking, in_order}
@@ -43,8 +43,8 @@ summary_line features nodes bytes found asked =
 -- and the line of its numbers
 abbrev pub text_of : ℕ → List ℕ → Option Shape → List (List ℕ) → Bounds → List ℕ
 text_of count bytes index pieces box =
-    answer Lines (header_in bytes) box pieces
-    ++ summary_line count (nodes_of index) (length bytes) (length (found (header_in bytes) box pieces)) (length (needed bytes index box))
+    answer Lines (header_in bytes) (box ∷ []) pieces
+    ++ summary_line count (nodes_of index) (length bytes) (length (found (header_in bytes) (box ∷ []) pieces)) (length (asked_positions bytes index (box ∷ []) 0))
 
 -- it is the text of the file that is made, which is queried with the box from -10 to 10
 pub record IsMadeText (count start : ℕ) (text : List ℕ) : Type 0 where

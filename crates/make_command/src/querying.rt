@@ -7,10 +7,10 @@ ghost use Rattle.found_features.specs.Entries.{found};
 ghost use Rattle.make_command.specs.Queries.{AreLines};
 
 use crate::kept::Kept;
+use box_list::Boxes;
 use box_query::{Found, QueryError, VisitError, Visitor, query, searches_are_scans};
 use fgb_header::HeaderView;
 use fgb_outside::{MemorySource, PlainSource};
-use order_keys::Bounds;
 use std::alloc::{AllocError, Global};
 use text_query::{Output, TextError, write_found};
 
@@ -22,14 +22,14 @@ pub(crate) struct Lines {
     pub(crate) asked: u64,
 }
 
-/// The lines of the features of a file that meet the bounds.
-pub(crate) fn lines_of(alloc: Global, image: &[u8], bounds: Bounds) -> Result<Lines, AllocError>
+/// The lines of the features of a file that meet one of these boxes.
+pub(crate) fn lines_of(alloc: Global, image: &[u8], boxes: &Boxes) -> Result<Lines, AllocError>
     requires { IsValid image.now }
-    ensures { IfOk result (AreLines image.now bounds) }
+    ensures { IfOk result (AreLines image.now boxes.now) }
 {
     let mut file = MemorySource::new(alloc, image, &[])?;
     let mut out = Kept::new(alloc);
-    match write_found(alloc, bounds, Output::Lines, &mut file, &mut out) {
+    match write_found(alloc, boxes, 0, Output::Lines, &mut file, &mut out) {
         Ok(()) => Ok(Lines {
             text: out.bytes,
             asked: count_positions(file.asked()),
@@ -54,16 +54,16 @@ fn count_positions(pairs: &[(u64, u64)]) -> u64
     count
 }
 
-/// How many features of a file meet the bounds.
-pub(crate) fn count_found(alloc: Global, image: &[u8], bounds: &Bounds) -> Result<u64, AllocError>
+/// How many features of a file meet one of these boxes.
+pub(crate) fn count_found(alloc: Global, image: &[u8], boxes: &Boxes) -> Result<u64, AllocError>
     requires { IsValid image.now }
     ensures { IfOk result (λ count. (index : Option Shape) (pieces : List (List ℕ)) → IsFile image.now index pieces
-        → count ≡ length (found (header_in image.now) bounds.now pieces)) }
+        → count ≡ length (found (header_in image.now) boxes.now pieces)) }
 {
     let mut file = PlainSource::new(image);
     let mut nobody = Nobody {};
     searches_are_scans();
-    match query(alloc, &mut file, bounds, &mut nobody) {
+    match query(alloc, &mut file, boxes, 0, &mut nobody) {
         Ok(done) => Ok(done.found),
         Err(QueryError::Memory) => Err(AllocError),
         Err(QueryError::Refused(_)) => unreachable!(),

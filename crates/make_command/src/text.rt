@@ -1,12 +1,14 @@
 // What is written of a file that is made.
 ghost use Rattle.std.specs.Prelude.{◌≡◌, ◌≤◌, pos, int_lt, unsigned_abs, IfOk, IfErr, OnOk, IsErrOf};
 ghost use Rattle.fgb_outside.specs.Source.{Rose};
+ghost use Rattle.order_keys.specs.Boxes.{IsBox};
 ghost use Rattle.grid_features.specs.Grid.{IsPattern};
 ghost use Rattle.make_command.specs.Made.{IsFault, IsMadeText, IsTenAround, WritesMade, WritesMadePart};
 
 use crate::making::{Made, make_file};
 use crate::querying::{count_found, lines_of};
 use crate::summary::{Summary, push_summary};
+use box_list::Boxes;
 use command_words::Stop;
 use fgb_outside::Sink;
 use order_keys::{Bounds, Coord};
@@ -43,9 +45,9 @@ fn made_text(alloc: Global, count: u64, start: u64) -> Result<Vec<u8>, AllocErro
     ensures { IfOk result (λ text. IsMadeText count start text.items) }
 {
     let made = make_file(alloc, count, start)?;
-    let bounds = ten_around();
-    let found = count_found(alloc, &made.bytes, &bounds)?;
-    let mut lines = lines_of(alloc, &made.bytes, bounds)?;
+    let boxes = Boxes::one(ten_around());
+    let found = count_found(alloc, &made.bytes, &boxes)?;
+    let mut lines = lines_of(alloc, &made.bytes, &boxes)?;
     let summary = Summary {
         features: made.features,
         nodes: made.nodes,
@@ -59,7 +61,8 @@ fn made_text(alloc: Global, count: u64, start: u64) -> Result<Vec<u8>, AllocErro
 
 /// The box from -10 to 10 across and up.
 fn ten_around() -> Bounds
-    ensures { IsTenAround result }
+    ensures around { IsTenAround result }
+    ensures valid { IsBox result }
 {
     let low = whole(-10);
     let high = whole(10);

@@ -75,20 +75,20 @@ module _ {V N : Type 0} (name : V → N) (states : V → List State) where
   visits_same v w (handed {header = header} begins) =
       (some_fed v w header begins.on.0 (record { begun = begins.begun; starts = begins.starts; on = begins.on.1 })).same
 
-  -- ## What a query of this box has done with one
+  -- ## What a query of these boxes has done with one
 
-  module _ (image : List ℕ) (box : Bounds) (v w : V) where
-    fed_of : (count : ℕ) → Visited Start Never Step Never image box v w count → FedOf image box (states v) (states w)
+  module _ (image : List ℕ) (boxes : List Bounds) (v w : V) where
+    fed_of : (count : ℕ) → Visited Start Never Step Never image boxes v w count → FedOf image boxes (states v) (states w)
     fed_of count visited = record { entries = visited.entries; answers = visited.answers; fed = all_fed v w (header_in image) visited.entries visited.begins }
 
-    fed_part : VisitedPart Start Never Step Never image box v w → FedPart image box (states v) (states w)
-    fed_part (untouched same) = nothing (ap states same)
-    fed_part (no_start index opened fails) = absurd fails
+    fed_part : {s s' : Source} → VisitedPart Start Never Step Never image boxes s s' v w → FedPart image boxes (states v) (states w)
+    fed_part (untouched same asks) = nothing (ap states same)
+    fed_part (no_start index opened fails asks) = absurd fails
     fed_part (begun due answers begins) =
         let took = some_fed v w (header_in image) due begins in
-        front took.taken took.rest (subst (AnswersPart image box) (sym took.split) answers) took.feeds
+        front took.taken took.rest (subst (AnswersPart image boxes) (sym took.split) answers) took.feeds
 
-    fed_refused : (broken : Broken) → VisitedRefused Start Never Step Never image box v w broken → FedRefused image box (states v) (states w) broken
+    fed_refused : (broken : Broken) → VisitedRefused Start Never Step Never image boxes v w broken → FedRefused image boxes (states v) (states w) broken
     fed_refused broken (in_front breaks same) = refused_in_front breaks (ap states same)
     fed_refused broken (behind entries refuses begins) = refused_behind entries refuses (all_fed v w (header_in image) entries begins)
 
@@ -120,28 +120,28 @@ on_err_both (Err stop) P Q R f p q = f p q
 
 -- the laws of searches and scans
 pub record AreScans : Type 0 where
-  pub whole : (image : List ℕ) (index : Option Shape) (pieces : List (List ℕ)) (box : Bounds) (entries : List Entry)
-      → IsFile image index pieces → Answers image box entries → entries ≡ found (header_in image) box pieces
-  pub part : (image : List ℕ) (index : Option Shape) (pieces : List (List ℕ)) (box : Bounds) (entries : List Entry)
-      → IsFile image index pieces → AnswersPart image box entries → (rest : List Entry) × (entries ++ rest ≡ found (header_in image) box pieces)
-  pub never : (image : List ℕ) (index : Option Shape) (pieces : List (List ℕ)) (box : Bounds) (broken : Broken) (entries : List Entry)
-      → IsFile image index pieces → Refuses image box broken entries → ⊥
-  pub first : (image : List ℕ) (box : Bounds) (broken : Broken) (entries : List Entry)
-      → IsUnindexed image → Refuses image box broken entries → BreaksFirst image broken
+  pub whole : (image : List ℕ) (index : Option Shape) (pieces : List (List ℕ)) (boxes : List Bounds) (entries : List Entry)
+      → IsFile image index pieces → Answers image boxes entries → entries ≡ found (header_in image) boxes pieces
+  pub part : (image : List ℕ) (index : Option Shape) (pieces : List (List ℕ)) (boxes : List Bounds) (entries : List Entry)
+      → IsFile image index pieces → AnswersPart image boxes entries → (rest : List Entry) × (entries ++ rest ≡ found (header_in image) boxes pieces)
+  pub never : (image : List ℕ) (index : Option Shape) (pieces : List (List ℕ)) (boxes : List Bounds) (broken : Broken) (entries : List Entry)
+      → IsFile image index pieces → Refuses image boxes broken entries → ⊥
+  pub first : (image : List ℕ) (boxes : List Bounds) (broken : Broken) (entries : List Entry)
+      → IsUnindexed image → Refuses image boxes broken entries → BreaksFirst image broken
 
-module _ {D V N T : Type 0} (name : V → N) (states : V → List State) (count : D → ℕ) (box : Bounds) (v w : V) (s s' : Source) (asked : Result D QueryError) (result : Result T Stop) where
+module _ {D V N T : Type 0} (name : V → N) (states : V → List State) (count : D → ℕ) (boxes : List Bounds) (gap : ℕ) (v w : V) (s s' : Source) (asked : Result D QueryError) (result : Result T Stop) where
   -- what the query promises
   pub record Visiting : Type 0 where
-    pub done : IfOk asked (λ d. IfTold s (λ image. Visited (Start name states) (Never name states) (Step name states) (Never name states) image box v w (count d)))
-    pub needed : OnOk asked (IfTold s (λ image. (index : Option Shape) (pieces : List (List ℕ)) → IsFile image index pieces → AsksNeeded image index box s s'))
+    pub done : IfOk asked (λ d. IfTold s (λ image. Visited (Start name states) (Never name states) (Step name states) (Never name states) image boxes v w (count d)))
+    pub needed : OnOk asked (IfTold s (λ image. (index : Option Shape) (pieces : List (List ℕ)) → IsFile image index pieces → AsksNeeded image index boxes gap s s'))
     pub all : OnOk asked (IfTold s (λ image. IsUnindexed image → AsksAll image s s'))
-    pub part : OnErr asked (IfTold s (λ image. VisitedPart (Start name states) (Never name states) (Step name states) (Never name states) image box v w))
-    pub needed_part : OnErr asked (IfTold s (λ image. (index : Option Shape) (pieces : List (List ℕ)) → IsFile image index pieces → AsksNeededFront image index box s s'))
+    pub part : OnErr asked (IfTold s (λ image. VisitedPart (Start name states) (Never name states) (Step name states) (Never name states) image boxes s s' v w))
+    pub needed_part : OnErr asked (IfTold s (λ image. (index : Option Shape) (pieces : List (List ℕ)) → IsFile image index pieces → AsksNeededFront image index boxes gap s s'))
     pub failed : IsErrOf asked query_error.SourceFailed → Rose s.faults s'.faults
     pub declared : IfTold s (λ image. AsksOnly (IsDeclared image) s s')
-    pub search : IfTold s (λ image. (t : Shape) → IsOpen image (Some t) → AsksSearch image t box s s')
+    pub search : IfTold s (λ image. (t : Shape) → IsOpen image (Some t) → AsksSearch image t boxes gap s s')
     pub front : IfTold s (λ image. ((t : Shape) → IsOpen image (Some t) → ⊥) → AsksFront image s s')
-    pub refused : IfQueryRefused asked (λ broken. IfTold s (λ image. VisitedRefused (Start name states) (Never name states) (Step name states) (Never name states) image box v w broken))
+    pub refused : IfQueryRefused asked (λ broken. IfTold s (λ image. VisitedRefused (Start name states) (Never name states) (Step name states) (Never name states) image boxes v w broken))
 
   -- and what becomes of its result
   pub record Ending : Type 0 where
@@ -159,53 +159,53 @@ module _ {D V N T : Type 0} (name : V → N) (states : V → List State) (count 
     abbrev After : List State
     After = states w
 
-    done : OnOk result (IfTold s (λ image. FedOf image box Before After))
-    done = on_done asked result _ _ (λ d visited image told. fed_of name states image box v w (count d) (visited image told)) ending.done visiting.done
+    done : OnOk result (IfTold s (λ image. FedOf image boxes Before After))
+    done = on_done asked result _ _ (λ d visited image told. fed_of name states image boxes v w (count d) (visited image told)) ending.done visiting.done
 
-    part : OnErr result (IfTold s (λ image. FedPart image box Before After))
-    part = on_stop asked result _ _ (λ visited image told. fed_part name states image box v w (visited image told)) ending.stopped visiting.part
+    part : OnErr result (IfTold s (λ image. FedPart image boxes Before After))
+    part = on_stop asked result _ _ (λ visited image told. fed_part name states image boxes v w (visited image told)) ending.stopped visiting.part
 
     -- a front of what is found is a front of what a filter finds
-    file_part : (image : List ℕ) (index : Option Shape) (pieces : List (List ℕ)) → IsFile image index pieces → FedPart image box Before After → AsksNeededFront image index box s s'
-        → FedFilePart image index pieces box s s' Before After
-    file_part image index pieces file (nothing same) asks = record { taken = []; rest = found (header_in image) box pieces; split = refl; fed = same; asked = asks }
+    file_part : (image : List ℕ) (index : Option Shape) (pieces : List (List ℕ)) → IsFile image index pieces → FedPart image boxes Before After → AsksNeededFront image index boxes gap s s'
+        → FedFilePart image index pieces boxes gap s s' Before After
+    file_part image index pieces file (nothing same) asks = record { taken = []; rest = found (header_in image) boxes pieces; split = refl; fed = same; asked = asks }
     file_part image index pieces file (front taken rest answers feeds) asks =
-        let more = law.part image index pieces box (taken ++ rest) file answers in
+        let more = law.part image index pieces boxes (taken ++ rest) file answers in
         record { taken = taken; rest = rest ++ more.0; split = sym (append_assoc taken rest more.0) ∙ more.1; fed = feeds; asked = asks }
     file_part image index pieces file (all of) asks = record {
       taken = of.entries;
       rest = [];
-      split = append-nil of.entries ∙ law.whole image index pieces box of.entries file of.answers;
+      split = append-nil of.entries ∙ law.whole image index pieces boxes of.entries file of.answers;
       fed = of.fed;
       asked = asks;
     }
 
-    first : (image : List ℕ) (broken : Broken) → FedRefused image box Before After broken → IsUnindexed image → BreaksFirst image broken
+    first : (image : List ℕ) (broken : Broken) → FedRefused image boxes Before After broken → IsUnindexed image → BreaksFirst image broken
     first image broken (refused_in_front breaks same) unindexed = breaks.first
-    first image broken (refused_behind entries refuses feeds) unindexed = law.first image box broken entries unindexed refuses
+    first image broken (refused_behind entries refuses feeds) unindexed = law.first image boxes broken entries unindexed refuses
 
     -- a file that breaks no rule is not refused
-    unrefused : (image : List ℕ) (broken : Broken) → FedRefused image box Before After broken → IsValid image → ⊥
+    unrefused : (image : List ℕ) (broken : Broken) → FedRefused image boxes Before After broken → IsValid image → ⊥
     unrefused image broken (refused_in_front breaks same) valid = first_invalid image breaks.first valid
     unrefused image broken (refused_behind entries refuses feeds) valid =
         let file = valid_file image valid in
-        law.never image file.0 file.1 box broken entries file.2 refuses
+        law.never image file.0 file.1 boxes broken entries file.2 refuses
 
-    pub feeds : Feeds box s s' Before After result
+    pub feeds : Feeds boxes gap s s' Before After result
     feeds = record {
       headline = on_ok_both result _ _ _ (λ of needed image told index pieces file. record {
-        fed = (of image told).fed ∙ ap (fed_all Before) (law.whole image index pieces box (of image told).entries file (of image told).answers);
+        fed = (of image told).fed ∙ ap (fed_all Before) (law.whole image index pieces boxes (of image told).entries file (of image told).answers);
         asked = needed image told index pieces file;
       }) done (on_done asked result _ _ (λ d needed. needed) ending.done visiting.needed);
       headline_part = on_err_both result _ _ _ (λ of needed image told index pieces file. file_part image index pieces file (of image told) (needed image told index pieces file))
           part (on_stop asked result _ _ (λ needed. needed) ending.stopped visiting.needed_part);
       done = done;
-      sound = on_ok_both result _ _ _ (λ of all image told unindexed. (unindexed_valid image box (of image told).entries (of image told).answers unindexed, all image told unindexed))
+      sound = on_ok_both result _ _ _ (λ of all image told unindexed. (unindexed_valid image boxes (of image told).entries (of image told).answers unindexed, all image told unindexed))
           done (on_done asked result _ _ (λ d all. all) ending.done visiting.all);
       refused = at_refusal asked result _ _ (λ broken visited image told.
-          let refusal = fed_refused name states image box v w broken (visited image told) in (refusal, first image broken refusal)) ending.refused visiting.refused;
+          let refusal = fed_refused name states image boxes v w broken (visited image told) in (refusal, first image broken refusal)) ending.refused visiting.refused;
       unrefused = λ image told valid. at_refusal asked result _ _ (λ broken visited.
-          unrefused image broken (fed_refused name states image box v w broken (visited image told)) valid) ending.refused visiting.refused;
+          unrefused image broken (fed_refused name states image boxes v w broken (visited image told)) valid) ending.refused visiting.refused;
       part = part;
       failed = λ is. visiting.failed (ending.failed is);
       no_sink = ending.no_sink;
@@ -216,5 +216,5 @@ module _ {D V N T : Type 0} (name : V → N) (states : V → List State) (count 
     }
 
 -- the same of what it shows
-pub feeds_at : {T : Type 0} (box : Bounds) (s s' : Source) (a b c d : List State) (result : Result T Stop) → a ≡ c → b ≡ d → Feeds box s s' a b result → Feeds box s s' c d result
-feeds_at box s s' a b c d result before after f = subst (λ x. Feeds box s s' c x result) after (subst (λ x. Feeds box s s' x b result) before f)
+pub feeds_at : {T : Type 0} (boxes : List Bounds) (gap : ℕ) (s s' : Source) (a b c d : List State) (result : Result T Stop) → a ≡ c → b ≡ d → Feeds boxes gap s s' a b result → Feeds boxes gap s s' c d result
+feeds_at boxes gap s s' a b c d result before after f = subst (λ x. Feeds boxes gap s s' c x result) after (subst (λ x. Feeds boxes gap s s' x b result) before f)

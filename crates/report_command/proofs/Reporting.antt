@@ -10,7 +10,7 @@ use Rattle.fgb_file.specs.File.{header_in}
 use Rattle.fgb_reader.proofs.Whole.{whole_front}
 use Rattle.found_features.specs.Entries.{found}
 use Rattle.found_features.proofs.Stopping.{on_ok_map}
-use Rattle.box_query.specs.Needed.{needed}
+use Rattle.box_query.specs.Needed.{asked}
 use Rattle.fgb_reports.specs.States.{State}
 use Rattle.command_words.specs.Requests.{Request, query, check, pack, convert, make, report, serve}
 use Rattle.command_words.specs.Statuses.{IsStatus, IfRefused}
@@ -56,17 +56,17 @@ module _ {T : Type 0} where
 
 -- ## A report
 
-module _ {T : Type 0} (box : Bounds) (s s' : Source) (before after : List State) (o o' : Sink) where
+module _ {T : Type 0} (boxes : List Bounds) (gap : ℕ) (s s' : Source) (before after : List State) (o o' : Sink) where
   -- it came to its end, and the lines were written, or a front of them
-  pub wrote : (x : T) (result : Result T Stop) → Feeds box s s' before after (Ok x) → WritesLines o o' after result → Reported box s s' before after o o' result
+  pub wrote : (x : T) (result : Result T Stop) → Feeds boxes gap s s' before after (Ok x) → WritesLines o o' after result → Reported boxes gap s s' before after o o' result
   wrote x result f w = record {
     headline = on_ok_map result _ _ (λ _. f.headline) w.whole;
     valid_part = λ image told index pieces file. record {
-      taken = found (header_in image) box pieces;
+      taken = found (header_in image) boxes pieces;
       rest = [];
-      split = append-nil (found (header_in image) box pieces);
+      split = append-nil (found (header_in image) boxes pieces);
       fed = (f.headline image told index pieces file).fed;
-      asked = whole_front (needed image index box) (f.headline image told index pieces file).asked;
+      asked = whole_front (asked image index boxes gap) (f.headline image told index pieces file).asked;
     };
     done = on_ok_map result _ _ (λ _. f.done) w.whole;
     sound = on_ok_map result _ _ (λ _. f.sound) w.whole;
@@ -93,18 +93,27 @@ done_or_memory refused large (inr (inl b)) = absurd (refused b)
 done_or_memory refused large (inr (inr (inl c))) = inr c
 done_or_memory refused large (inr (inr (inr d))) = absurd (large d)
 
--- the box of a report that is asked for
-abbrev pub box_asked : Bounds → Request → Bounds
-box_asked other (query input box output) = other
-box_asked other (check input) = other
-box_asked other (pack input node_size) = other
-box_asked other (convert input from to) = other
-box_asked other (make count start) = other
-box_asked other (report input box) = box
-box_asked other (serve name port connections) = other
+-- the boxes of a report that is asked for, and its gap
+abbrev pub boxes_asked : List Bounds → Request → List Bounds
+boxes_asked other (query input boxes gap output) = other
+boxes_asked other (check input) = other
+boxes_asked other (pack input node_size) = other
+boxes_asked other (convert input from to) = other
+boxes_asked other (make count start) = other
+boxes_asked other (report input boxes gap) = boxes
+boxes_asked other (serve name port connections) = other
 
-module _ {T : Type 0} (box : Bounds) (s s' : Source) (before after : List State) (o o' e e' : Sink) (status : ℕ) (r : Result T Stop) (is : IsStatus r e e' status) where
-  reports : Reported box s s' before after o o' r → Reports box s s' before after o o' e e' status
+abbrev pub gap_asked : ℕ → Request → ℕ
+gap_asked other (query input boxes gap output) = other
+gap_asked other (check input) = other
+gap_asked other (pack input node_size) = other
+gap_asked other (convert input from to) = other
+gap_asked other (make count start) = other
+gap_asked other (report input boxes gap) = gap
+gap_asked other (serve name port connections) = other
+
+module _ {T : Type 0} (boxes : List Bounds) (gap : ℕ) (s s' : Source) (before after : List State) (o o' e e' : Sink) (status : ℕ) (r : Result T Stop) (is : IsStatus r e e' status) where
+  reports : Reported boxes gap s s' before after o o' r → Reports boxes gap s s' before after o o' e e' status
   reports q = record {
     headline = λ zero. (at_done e e' status r _ is q.headline zero).0;
     valid_part = q.valid_part;
@@ -128,6 +137,6 @@ module _ {T : Type 0} (box : Bounds) (s s' : Source) (before after : List State)
     written_part = q.written_part;
   }
 
-  -- the promise at the box that the words ask for
-  pub does_report : (asked : Bounds) → box ≡ asked → Reported box s s' before after o o' r → (status ≢ 2) × Reports asked s s' before after o o' e e' status
-  does_report asked same q = (not_usage e e' status r is, subst (λ b. Reports b s s' before after o o' e e' status) same (reports q))
+  -- the promise at the boxes and the gap that the words ask for
+  pub does_report : (sought : List Bounds) (bridged : ℕ) → boxes ≡ sought → gap ≡ bridged → Reported boxes gap s s' before after o o' r → (status ≢ 2) × Reports sought bridged s s' before after o o' e e' status
+  does_report sought bridged same short q = (not_usage e e' status r is, subst (λ g. Reports sought g s s' before after o o' e e' status) short (subst (λ b. Reports b gap s s' before after o o' e e' status) same (reports q)))

@@ -1,16 +1,16 @@
 // A query that feeds reporters.
-ghost use Rattle.std.specs.Prelude.{◌≡◌, ◌≢◌, None, Err, OnOk, OnErr, IsErr, IsOk, IsErrOf, map};
+ghost use Rattle.std.specs.Prelude.{◌≤◌, ◌≡◌, ◌≢◌, None, Err, OnOk, OnErr, IsErr, IsOk, IsErrOf, map};
 ghost use Rattle.fgb_reports.specs.States.{fed};
 ghost use Rattle.command_words.specs.Statuses.{IfRefused};
 ghost use Rattle.report_command.specs.Feeds.{Feeds};
 
+use box_list::Boxes;
 use box_query::{QueryDone, QueryError, VisitError, Visitor, query, searches_are_scans};
 use command_words::Stop;
 use fgb_header::HeaderView;
 use fgb_outside::RangeSource;
 use fgb_reports::{Reporter, feed_all};
 use found_features::Found;
-use order_keys::Bounds;
 use std::alloc::Global;
 
 /// Feeds reporters with the features that it is handed.
@@ -54,21 +54,23 @@ impl<'r> Visitor for Feeder<'r> {
     }
 }
 
-/// Feeds the reporters with the features whose own boxes meet the bounds, in file order. One that refuses a feature is
+/// Feeds the reporters with the features whose own boxes meet one of these boxes, in file order. One that refuses a feature is
 /// dropped, and the others keep their order.
 ///
 /// Refuses the file as `query` of `box_query` does, and the reporters were fed with the features before a refusal.
 pub(crate) fn feed_found<S: RangeSource>(
     alloc: Global,
-    bounds: &Bounds,
+    boxes: &Boxes,
+    gap: u32,
     file: &mut S,
     reports: &mut Vec<Box<dyn Reporter>>,
 ) -> Result<(), Stop>
-    ensures { Feeds bounds.now (S.seen file.old) (S.seen file.new) (map (λ r. shown r) reports.old.items) (map (λ r. shown r) reports.new.items) result }
+    requires short { gap ≤ 1048576 }
+    ensures { Feeds boxes.now gap (S.seen file.old) (S.seen file.new) (map (λ r. shown r) reports.old.items) (map (λ r. shown r) reports.new.items) result }
 {
     let mut feeder = Feeder::new(reports);
     searches_are_scans();
-    let asked = query(alloc, file, bounds, &mut feeder);
+    let asked = query(alloc, file, boxes, gap, &mut feeder);
     ended(asked)
 }
 

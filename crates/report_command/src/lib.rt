@@ -1,6 +1,6 @@
-//! Reports on what a query of a box finds in a FlatGeobuf file.
+//! Reports on what a query finds in a FlatGeobuf file.
 //!
-//! [`report_run`] feeds boxed reporters with the features whose own boxes meet a box, and writes the lines of those that
+//! [`report_run`] feeds boxed reporters with the features whose own boxes meet one of several boxes, and writes the lines of those that
 //! are left. A reporter that refuses a feature is dropped. What the reporters show before and after, what is asked for,
 //! what is written, and which status comes when stands in `specs/Reports.antt`.
 //!

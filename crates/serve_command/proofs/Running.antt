@@ -11,12 +11,12 @@ use Rattle.serve_command.specs.Runs.{ServesAndTells, ServesRun}
 
 -- words that do not ask to serve
 pub not_asked : {words : List (List ℕ)} → ((name : List ℕ) (port connections : ℕ) → Asks words (serve name port connections) → ⊥) → IsUsageOf IsServe words
-not_asked none (query input bounds output) asks is = is
+not_asked none (query input boxes gap output) asks is = is
 not_asked none (check input) asks is = is
 not_asked none (pack input node_size) asks is = is
 not_asked none (convert input from to) asks is = is
 not_asked none (make count start) asks is = is
-not_asked none (report input bounds) asks is = is
+not_asked none (report input boxes gap) asks is = is
 not_asked none (serve name port connections) asks is = none name port connections asks
 
 -- requests to serve that are the same

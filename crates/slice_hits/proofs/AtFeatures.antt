@@ -4,7 +4,7 @@ use Rattle.std.specs.Prelude.{slice_range}
 use Rattle.std.specs.List.{concat}
 use Rattle.flat_layout.specs.declared.Broken.{Broken}
 use Rattle.order_keys.specs.declared.bounds.Bounds.{Bounds}
-use Rattle.order_keys.specs.Boxes.{meets}
+use Rattle.box_list.specs.Lists.{meets_any}
 use Rattle.fgb_header.specs.Views.{header_shown}
 use Rattle.fgb_schema.specs.Headers.{Header}
 use Rattle.fgb_schema.specs.Features.{feature_of, own_box}
@@ -24,7 +24,7 @@ use Rattle.slice_hits.specs.Scanning.{Stands}
 
 -- before the first
 pub stands_none : (image : List ℕ) (scan : Scan) → AreOf image None scan.features → scan.at ≡ scan.features.first
-    → ((begun : ℕ) → (header_shown scan.features.header).features_count ≡ told_count image → Counts image begun [] scan.tally) → Stands image scan.bounds [] scan
+    → ((begun : ℕ) → (header_shown scan.features.header).features_count ≡ told_count image → Counts image begun [] scan.tally) → Stands image scan.boxes [] scan
 stands_none image scan over begins counts = record {
   over = over;
   sought = refl;
@@ -34,15 +34,15 @@ stands_none image scan over begins counts = record {
   given = refl;
 }
 
-module _ (image : List ℕ) (box : Bounds) (entries : List Entry) (scan : Scan) (stands : Stands image box entries scan) where
+module _ (image : List ℕ) (boxes : List Bounds) (entries : List Entry) (scan : Scan) (stands : Stands image boxes entries scan) where
   -- the feature that stands next is read under the header of these bytes
   pub shown_next : header_shown scan.features.header ≡ header_in scan.features.bytes.now
   shown_next = stands.over.shown ∙ ap header_in (sym stands.over.bytes)
 
   -- it is refused
-  pub refused_next : (broken : Broken) → scan.at < length scan.features.bytes.now → BreaksFeature scan.features.bytes.now scan.at broken.place broken.rule → Refuses image box broken entries
+  pub refused_next : (broken : Broken) → scan.at < length scan.features.bytes.now → BreaksFeature scan.features.bytes.now scan.at broken.place broken.rule → Refuses image boxes broken entries
   refused_next broken early breaks =
-      subst (Refuses image box broken) (sym stands.given)
+      subst (Refuses image boxes broken) (sym stands.given)
       (in_scan (behind stands.passes (subst (λ b. scan.at < length b) stands.over.bytes early) (subst (λ b. BreaksFeature b scan.at broken.place broken.rule) stands.over.bytes breaks)))
 
   -- it was read
@@ -56,12 +56,12 @@ module _ (image : List ℕ) (box : Bounds) (entries : List Entry) (scan : Scan) 
     box_there : box_of (header_in image) (piece_at image scan.at) ≡ own
     box_there = ap (λ b. own_box (feature_of (header_in image) b)) (piece_buffer image scan.at read.framed) ∙ sym read.bounded
 
-    module _ (new : Scan) (features : new.features ≡ scan.features) (bounds : new.bounds ≡ scan.bounds) (next : new.at ≡ scan.at + 4 + length buffer)
+    module _ (new : Scan) (features : new.features ≡ scan.features) (boxes_stay : new.boxes ≡ scan.boxes) (next : new.at ≡ scan.at + 4 + length buffer)
         (counts : (begun : ℕ) (pieces : List (List ℕ)) (piece : List ℕ) → Walks image begun pieces scan.at → Counts image begun pieces scan.tally → Counts image begun (pieces ++ piece ∷ []) new.tally) where
-      passed : (es : List Entry) → es ≡ found (header_in image) box (stands.pieces ++ piece_at image scan.at ∷ []) → Stands image box es new
+      passed : (es : List Entry) → es ≡ found (header_in image) boxes (stands.pieces ++ piece_at image scan.at ∷ []) → Stands image boxes es new
       passed es given = record {
         over = subst (AreOf image None) (sym features) stands.over;
-        sought = bounds ∙ stands.sought;
+        sought = boxes_stay ∙ stands.sought;
         pieces = stands.pieces ++ piece_at image scan.at ∷ [];
         passes = subst (Passes image None (stands.pieces ++ piece_at image scan.at ∷ [])) (after _ _ _ size next) (passes_more image stands.passes read.framed read.clean tt);
         counts = counts (header_end image) stands.pieces (piece_at image scan.at) stands.passes.walks stands.counts;
@@ -71,15 +71,15 @@ module _ (image : List ℕ) (box : Bounds) (entries : List Entry) (scan : Scan) 
           after : (a b c : ℕ) → a ≡ b → c ≡ scan.at + 4 + a → scan.at + (4 + b) ≡ c
           after a b c e f = omega arith
 
-      -- its own box does not meet the box
-      pub passed_miss : meets own scan.bounds ≡ false → Stands image box entries new
+      -- its own box meets none of the boxes
+      pub passed_miss : meets_any scan.boxes own ≡ false → Stands image boxes entries new
       passed_miss miss =
-          passed entries (stands.given ∙ sym (found_miss (header_in image) box stands.pieces (piece_at image scan.at)
-          (ap (λ b. meets b box) box_there ∙ ap (meets own) (sym stands.sought) ∙ miss)))
+          passed entries (stands.given ∙ sym (found_miss (header_in image) boxes stands.pieces (piece_at image scan.at)
+          (ap (meets_any boxes) box_there ∙ ap (λ (bs : List Bounds). meets_any bs own) (sym stands.sought) ∙ miss)))
 
       -- or meets it, and it is given
-      pub passed_hit : meets own scan.bounds ≡ true → (number offset : ℕ) → number ≡ seen_of scan.tally → offset ≡ scan.at - scan.features.first
-          → Stands image box (entries ++ record { number = number; offset = offset; buffer = buffer; own = own } ∷ []) new
+      pub passed_hit : meets_any scan.boxes own ≡ true → (number offset : ℕ) → number ≡ seen_of scan.tally → offset ≡ scan.at - scan.features.first
+          → Stands image boxes (entries ++ record { number = number; offset = offset; buffer = buffer; own = own } ∷ []) new
       passed_hit meet number offset counted apart =
           let make : ℕ → ℕ → List ℕ → Bounds → Entry = λ n o b own. record { number = n; offset = o; buffer = b; own = own } in
           let p = piece_at image scan.at in
@@ -91,8 +91,8 @@ module _ (image : List ℕ) (box : Bounds) (entries : List Entry) (scan : Scan) 
           ∙ ap (make number offset buffer) box_there in
           passed (entries ++ make number offset buffer own ∷ [])
           (ap (λ (es : List Entry). es ++ make number offset buffer own ∷ []) stands.given
-          ∙ ap (λ (e : Entry). found (header_in image) box stands.pieces ++ e ∷ []) (sym entry_is)
-          ∙ sym (found_hit (header_in image) box stands.pieces p (ap (λ b. meets b box) box_there ∙ ap (meets own) (sym stands.sought) ∙ meet)))
+          ∙ ap (λ (e : Entry). found (header_in image) boxes stands.pieces ++ e ∷ []) (sym entry_is)
+          ∙ sym (found_hit (header_in image) boxes stands.pieces p (ap (meets_any boxes) box_there ∙ ap (λ (bs : List Bounds). meets_any bs own) (sym stands.sought) ∙ meet)))
         where
           far : (place many first off : ℕ) → place + many ≡ scan.at → first ≡ place → off ≡ scan.at - first → many ≡ off
           far place many first off e f g = omega arith
@@ -103,9 +103,9 @@ module _ (image : List ℕ) (box : Bounds) (entries : List Entry) (scan : Scan) 
     ends_there = subst (λ b. length b ≤ scan.at) stands.over.bytes ends
 
     -- their number is wrong
-    pub refused_count : (broken : Broken) → BreaksCount image (header_end image) stands.pieces broken.place broken.rule → Refuses image box broken entries
-    refused_count broken breaks = subst (Refuses image box broken) (sym stands.given) (in_scan (at_end (passes_end image stands.passes ends_there) breaks))
+    pub refused_count : (broken : Broken) → BreaksCount image (header_end image) stands.pieces broken.place broken.rule → Refuses image boxes broken entries
+    refused_count broken breaks = subst (Refuses image boxes broken) (sym stands.given) (in_scan (at_end (passes_end image stands.passes ends_there) breaks))
 
     -- or right
-    pub answers_all : Agrees (told_count image) (length stands.pieces) → Answers image box entries
-    answers_all agrees = subst (Answers image box) (sym stands.given) (scanned (whole (passes_file image stands.passes ends_there agrees)))
+    pub answers_all : Agrees (told_count image) (length stands.pieces) → Answers image boxes entries
+    answers_all agrees = subst (Answers image boxes) (sym stands.given) (scanned (whole (passes_file image stands.passes ends_there agrees)))

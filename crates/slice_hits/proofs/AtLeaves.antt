@@ -22,10 +22,10 @@ use Rattle.slice_hits.specs.Reading.{IsRead}
 use Rattle.slice_hits.specs.Searching.{IsOver, tree_of}
 
 -- the feature is read under the header of these bytes
-pub shown_here : (image : List ℕ) (box : Bounds) (search : Search) → IsOver image box search → header_shown search.features.header ≡ header_in search.features.bytes.now
-shown_here image box search over = over.over.shown ∙ ap header_in (sym over.over.bytes)
+pub shown_here : (image : List ℕ) (boxes : List Bounds) (search : Search) → IsOver image boxes search → header_shown search.features.header ≡ header_in search.features.bytes.now
+shown_here image boxes search over = over.over.shown ∙ ap header_in (sym over.over.bytes)
 
-module _ (image : List ℕ) (box : Bounds) (search : Search) (over : IsOver image box search) (leaf : Hit) (k : ℕ) (is : leaf ≡ hit_of (tree_of search) (node_in image) 0 k) where
+module _ (image : List ℕ) (boxes : List Bounds) (search : Search) (over : IsOver image boxes search) (leaf : Hit) (k : ℕ) (is : leaf ≡ hit_of (tree_of search) (node_in image) 0 k) where
   number_is : leaf.number ≡ k
   number_is = ap (λ (h : Hit). h.number) is
 

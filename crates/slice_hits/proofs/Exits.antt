@@ -20,21 +20,21 @@ module _ (image : List ℕ) where
   leaf_exit t k (Ok x) e is breaks = absurd is
   leaf_exit t k (Err y) e is breaks = subst (λ (b : Broken). BreaksHit image t k b.place b.rule) (sym is) breaks
 
-  module _ (box : Bounds) (entries : List Entry) (Stands : List Entry → Type 0) where
-    pub passes_exit : (r : Result (Option Found) Broken) (e : Broken) → IsErrAnd r (λ y. y ≡ e) → Refuses image box e entries → PassesOn image box entries Stands r
+  module _ (boxes : List Bounds) (entries : List Entry) (Stands : List Entry → Type 0) where
+    pub passes_exit : (r : Result (Option Found) Broken) (e : Broken) → IsErrAnd r (λ y. y ≡ e) → Refuses image boxes e entries → PassesOn image boxes entries Stands r
     passes_exit (Ok x) e is refuses = absurd is
-    passes_exit (Err y) e is refuses = subst (λ b. Refuses image box b entries) (sym is) refuses
+    passes_exit (Err y) e is refuses = subst (λ b. Refuses image boxes b entries) (sym is) refuses
 
-    pub goes_exit : (r : Result (Option Found) Broken) (e : Broken) → IsErrAnd r (λ y. y ≡ e) → Refuses image box e entries → GoesOn image box entries Stands r
+    pub goes_exit : (r : Result (Option Found) Broken) (e : Broken) → IsErrAnd r (λ y. y ≡ e) → Refuses image boxes e entries → GoesOn image boxes entries Stands r
     goes_exit (Ok x) e is refuses = absurd is
-    goes_exit (Err y) e is refuses = subst (λ b. Refuses image box b entries) (sym is) refuses
+    goes_exit (Err y) e is refuses = subst (λ b. Refuses image boxes b entries) (sym is) refuses
 
     -- what a call gave
-    pub gives_found : (r : Result (Option Found) Broken) (o : Option Found) (found : Found) → r ≡ Ok o → o ≡ Some found → GoesOn image box entries Stands r → Stands (entries ++ entry_of found ∷ [])
-    gives_found r o found is some goes = subst (GoesOn image box entries Stands) (is ∙ ap Ok some) goes
+    pub gives_found : (r : Result (Option Found) Broken) (o : Option Found) (found : Found) → r ≡ Ok o → o ≡ Some found → GoesOn image boxes entries Stands r → Stands (entries ++ entry_of found ∷ [])
+    gives_found r o found is some goes = subst (GoesOn image boxes entries Stands) (is ∙ ap Ok some) goes
 
-    pub gives_none : (r : Result (Option Found) Broken) (o : Option Found) → r ≡ Ok o → o ≡ None → GoesOn image box entries Stands r → Answers image box entries
-    gives_none r o is none goes = subst (GoesOn image box entries Stands) (is ∙ ap Ok none) goes
+    pub gives_none : (r : Result (Option Found) Broken) (o : Option Found) → r ≡ Ok o → o ≡ None → GoesOn image boxes entries Stands r → Answers image boxes entries
+    gives_none r o is none goes = subst (GoesOn image boxes entries Stands) (is ∙ ap Ok none) goes
 
 -- a walk that is over gives no feature
 pub none_found : (r : Result (Option Found) Broken) (o : Option Found) (found : Found) → r ≡ Ok o → o ≡ Some found → r ≡ Ok None → ⊥

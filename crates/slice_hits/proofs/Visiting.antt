@@ -3,13 +3,13 @@ use Rattle.std.proofs.Common.{◌≡◌, ℕ, ◌+◌, ◌-◌, ◌<◌, ◌≤�
 use Rattle.std.proofs.lemmas.Bool.{cases_lt}
 use Rattle.flat_layout.specs.declared.Broken.{Broken}
 use Rattle.order_keys.specs.declared.bounds.Bounds.{Bounds}
-use Rattle.order_keys.specs.Boxes.{meets}
+use Rattle.box_list.specs.Lists.{meets_any}
 use Rattle.level_bounds.specs.Levels.{Shape, IsShape, IsNode, width, place, nodes_above, node_count, first_child, children_end}
 use Rattle.level_bounds.proofs.Places.{front_is_inner, inner_in_front, node_within, places_tell, root_first, width_some}
 use Rattle.node_items.specs.declared.item.NodeItem.{NodeItem}
 use Rattle.node_items.specs.Faults.{group_faults}
 use Rattle.index_reader.specs.Parts.{AreChildren}
-use Rattle.tree_search.specs.Wanted.{meets_box, passes}
+use Rattle.tree_search.specs.Wanted.{passes}
 use Rattle.slice_hits.specs.declared.search.Visit.{Visit}
 use Rattle.slice_hits.specs.Preorder.{ComesBehind, nothing, sibling}
 use Rattle.slice_hits.specs.Searching.{Visits, passed_by, down, hit, RefusesVisit, below}
@@ -55,21 +55,21 @@ module _ (t : Shape) (shape : IsShape t) (k i number : ℕ) (is : IsNode t k i) 
   pub inner_level : number < place t 0 0 → k ≡ k - 1 + 1
   inner_level front = let above = front_is_inner t k i (subst (λ n. n < place t 0 0) here front) in omega arith
 
-  module _ (nodes : ℕ → NodeItem) (at : ℕ) (box : Bounds) (item : NodeItem) (read : item ≡ nodes number) where
-    pub passes_is : (b : Bool) → b ≡ meets item.bounds box → passes t nodes (meets_box box) k i ≡ b
-    passes_is b met = ap (λ n. meets (nodes n).bounds box) (sym here) ∙ ap (λ (v : NodeItem). meets v.bounds box) (sym read) ∙ sym met
+  module _ (nodes : ℕ → NodeItem) (at : ℕ) (boxes : List Bounds) (item : NodeItem) (read : item ≡ nodes number) where
+    pub passes_is : (b : Bool) → b ≡ meets_any boxes item.bounds → passes t nodes (meets_any boxes) k i ≡ b
+    passes_is b met = ap (λ n. meets_any boxes (nodes n).bounds) (sym here) ∙ ap (λ (v : NodeItem). meets_any boxes v.bounds) (sym read) ∙ sym met
 
-    pub visit_past : (next : Option ℕ) → false ≡ meets item.bounds box → ComesBehind t k i next → Visits t nodes at box k i (record { leaf = None; next = next })
+    pub visit_past : (next : Option ℕ) → false ≡ meets_any boxes item.bounds → ComesBehind t k i next → Visits t nodes at boxes k i (record { leaf = None; next = next })
     visit_past next met comes = passed_by (passes_is false met) comes
 
-    pub visit_leaf : (first : ℕ) (next : Option ℕ) → first ≡ place t 0 0 → first ≤ number → true ≡ meets item.bounds box → ComesBehind t k i next
-        → Visits t nodes at box k i (record { leaf = Some (record { number = number - first; item = item }); next = next })
+    pub visit_leaf : (first : ℕ) (next : Option ℕ) → first ≡ place t 0 0 → first ≤ number → true ≡ meets_any boxes item.bounds → ComesBehind t k i next
+        → Visits t nodes at boxes k i (record { leaf = Some (record { number = number - first; item = item }); next = next })
     visit_leaf first next e behind met comes =
         let leaf = leaf_level first e behind in
         let make : ℕ → NodeItem → Visit = λ n v. record { leaf = Some (record { number = n; item = v }); next = next } in
         let there : nodes number ≡ nodes (place t 0 i) = ap nodes here ∙ ap (λ l. nodes (place t l i)) leaf in
         let same : make i (nodes (place t 0 i)) ≡ make (number - first) item = ap (λ n. make n (nodes (place t 0 i))) (sym (leaf_number first e leaf)) ∙ ap (make (number - first)) (sym there ∙ sym read) in
-        subst (Visits t nodes at box k i) same (hit leaf (passes_is true met) comes)
+        subst (Visits t nodes at boxes k i) same (hit leaf (passes_is true met) comes)
 
     module _ (front : number < place t 0 0) (first end : ℕ)
         (children : (l j : ℕ) → IsNode t (l + 1) j → number ≡ place t (l + 1) j → (first ≡ place t l (first_child t j)) × (end ≡ place t l (children_end t l j))) where
@@ -88,10 +88,10 @@ module _ (t : Shape) (shape : IsShape t) (k i number : ℕ) (is : IsNode t k i) 
       pub parent_is : ◌≡◌ {A = Option (NodeItem × ℕ)} (Some (item, number)) (Some (nodes (place t (k - 1 + 1) i), place t (k - 1 + 1) i))
       parent_is = ap (λ v. Some (v, number)) read ∙ ap (λ n. Some (nodes n, n)) stands
 
-      pub visit_down : true ≡ meets item.bounds box → group_faults t nodes at (k - 1) i ≡ [] → Visits t nodes at box k i (record { leaf = None; next = Some first })
+      pub visit_down : true ≡ meets_any boxes item.bounds → group_faults t nodes at (k - 1) i ≡ [] → Visits t nodes at boxes k i (record { leaf = None; next = Some first })
       visit_down met clean =
           let make : ℕ → Visit = λ n. record { leaf = None; next = Some n } in
-          subst (Visits t nodes at box k i) (ap make (sym are_children.first)) (down (k - 1) level (passes_is true met) clean)
+          subst (Visits t nodes at boxes k i) (ap make (sym are_children.first)) (down (k - 1) level (passes_is true met) clean)
 
-      pub visit_refused : true ≡ meets item.bounds box → (e : Broken) → (rest : List Broken) × (group_faults t nodes at (k - 1) i ≡ e ∷ rest) → RefusesVisit t nodes at box k i e
+      pub visit_refused : true ≡ meets_any boxes item.bounds → (e : Broken) → (rest : List Broken) × (group_faults t nodes at (k - 1) i ≡ e ∷ rest) → RefusesVisit t nodes at boxes k i e
       visit_refused met e begins = below (k - 1) level (passes_is true met) begins.0 begins.1

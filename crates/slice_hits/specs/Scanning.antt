@@ -8,13 +8,13 @@ use Rattle.slice_hits.specs.declared.scan.Scan.{Scan}
 use Rattle.slice_hits.specs.Reading.{AreOf}
 
 -- it has passed features of this file that break no rule, and these are the found ones of them
-pub record Stands (image : List ℕ) (box : Bounds) (entries : List Entry) (scan : Scan) : Type 0 where
+pub record Stands (image : List ℕ) (boxes : List Bounds) (entries : List Entry) (scan : Scan) : Type 0 where
   pub over : AreOf image None scan.features
-  pub sought : scan.bounds ≡ box
+  pub sought : scan.boxes ≡ boxes
   pub pieces : List (List ℕ)
   pub passes : Passes image None pieces scan.at
   pub counts : Counts image (header_end image) pieces scan.tally
-  pub given : entries ≡ found (header_in image) box pieces
+  pub given : entries ≡ found (header_in image) boxes pieces
 
 -- no more features come
 abbrev pub left : Scan → ℕ

@@ -17,23 +17,23 @@ ghost use Rattle.hit_reader.specs.Going.{IsBehind};
 
 use crate::after::next_behind;
 use crate::features::Features;
+use box_list::Boxes;
 use fgb_reader::PREFIX;
 use flat_views::{Broken, Rule};
 use found_features::Found;
 use index_reader::judge_group;
 use level_bounds::Levels;
 use node_items::{NODE, NodeItem};
-use order_keys::Bounds;
 use tree_search::Hit;
 
 /// A walk through an index, from the root down.
-#[derive(Clone, Copy)]
+#[derive(Drop)]
 pub(crate) struct Search<'a> {
     features: Features<'a>,
     levels: Levels,
     /// Where the index begins.
     place: usize,
-    bounds: Bounds,
+    boxes: Boxes,
     /// The node that comes next, none behind all.
     node: Option<u64>,
     /// Behind the feature that was found last, or where the first one stands.
@@ -60,25 +60,25 @@ impl<'a> Search<'a> {
         features: Features<'a>,
         levels: Levels,
         place: usize,
-        bounds: Bounds,
+        boxes: Boxes,
     ) -> Search<'a>
         requires { place + 40 * node_count (shape_of levels) ≤ length features.bytes.now }
-        ensures { (image : List ℕ) → AreOf image (Some (shape_of levels)) features.entry → place ≡ header_end image → Stands image bounds [] result }
+        ensures { (image : List ℕ) → AreOf image (Some (shape_of levels)) features.entry → place ≡ header_end image → Stands image boxes [] result }
     {
         Search {
             features,
             levels,
             place,
-            bounds,
+            boxes,
             node: Some(0),
             reached: features.first,
         }
     }
 
-    /// The next feature where a leaf says whose box, and those of all nodes above it, meet the bounds; None behind the last
-    /// leaf. Refuses what is broken at a node that is met, at a leaf that is found, or at its feature.
+    /// The next feature where a leaf says whose box, and those of all nodes above it, meet one of the boxes; None behind the
+    /// last leaf. Refuses what is broken at a node that is met, at a leaf that is found, or at its feature.
     pub(crate) fn advance(&mut self) -> Result<Option<Found<'a>>, Broken>
-        ensures goes { (image : List ℕ) (box : Box) (entries : List Entry) → Stands image box entries self.old → GoesOn image box entries (λ es. Stands image box es self.new) result }
+        ensures goes { (image : List ℕ) (boxes : List Box) (entries : List Entry) → Stands image boxes entries self.old → GoesOn image boxes entries (λ es. Stands image boxes es self.new) result }
         ensures nearer { IfOk result (λ found. OnSome found (left self.new < left self.old)) }
     {
         while let Some(node) = self.node {
@@ -92,7 +92,7 @@ impl<'a> Search<'a> {
     /// Goes on from the node that comes next, and gives its feature if it is a leaf that is found.
     fn step(&mut self, node: u64) -> Result<Option<Found<'a>>, Broken>
         requires { self.old.node ≡ Some node }
-        ensures passes { (image : List ℕ) (box : Box) (entries : List Entry) → Stands image box entries self.old → PassesOn image box entries (λ es. Stands image box es self.new) result }
+        ensures passes { (image : List ℕ) (boxes : List Box) (entries : List Entry) → Stands image boxes entries self.old → PassesOn image boxes entries (λ es. Stands image boxes es self.new) result }
         ensures tree { tree_of self.new ≡ tree_of self.old }
         ensures nearer { OnOk result (way_left self.new < way_left self.old) }
         ensures no_farther { OnOk result (left self.new ≤ left self.old) }
@@ -109,20 +109,20 @@ impl<'a> Search<'a> {
         Ok(Some(found))
     }
 
-    /// Judges the children of a node whose box meets the bounds, and says what comes next.
+    /// Judges the children of a node whose box meets one of the boxes, and says what comes next.
     fn visit(&self, node: u64) -> Result<Visit, Broken>
         requires { node < node_count (tree_of self.now) }
         ensures goes { let t = tree_of self.now in (k i : ℕ) → IsNode t k i → node ≡ place_of_node t k i
-            → IfOk result (λ visit. Visits t (nodes_of self.now) self.now.place self.now.bounds k i visit) }
+            → IfOk result (λ visit. Visits t (nodes_of self.now) self.now.place self.now.boxes k i visit) }
         ensures root { OnOk result (node ≡ 0 → root_faults (tree_of self.now) (nodes_of self.now) self.now.place ≡ []) }
         ensures refused { let t = tree_of self.now in (k i : ℕ) → IsNode t k i → node ≡ place_of_node t k i
-            → IfErr result (λ broken. RefusesVisit t (nodes_of self.now) self.now.place self.now.bounds k i broken) }
+            → IfErr result (λ broken. RefusesVisit t (nodes_of self.now) self.now.place self.now.boxes k i broken) }
         ensures next { IfOk result (λ visit. IfSome visit.next (λ n. n < node_count (tree_of self.now))) }
         ensures leaf { IfOk result (λ visit. IfSome visit.leaf (λ hit. hit.number < (tree_of self.now).leaves)) }
     {
         self.judge_root(node)?;
         let item = self.item(node);
-        if !item.bounds.meets(self.bounds) {
+        if !self.boxes.meets(item.bounds) {
             return Ok(Visit {
                 leaf: None,
                 next: next_behind(&self.levels, node),
@@ -187,7 +187,7 @@ impl<'a> Search<'a> {
     /// LeafBox at the leaf where its box differs from the feature's own by their keys.
     fn read(&self, leaf: Hit) -> Result<Found<'a>, Broken>
         requires { leaf.number < (tree_of self.now).leaves }
-        ensures judged { let t = tree_of self.now in (image : List ℕ) (box : Box) (k : ℕ) → IsOver image box self.now → leaf ≡ hit_of t (node_in image) 0 k
+        ensures judged { let t = tree_of self.now in (image : List ℕ) (boxes : List Box) (k : ℕ) → IsOver image boxes self.now → leaf ≡ hit_of t (node_in image) 0 k
             → IsBehind image t k self.now.reached → ReadsLeaf image t k result }
         ensures within { IfOk result (λ found. self.now.features.first + leaf.item.offset + 4 + length found.bytes.now ≤ length self.now.features.bytes.now) }
     {

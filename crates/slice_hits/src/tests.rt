@@ -2,6 +2,7 @@ use super::*;
 
 mod rows;
 
+use box_list::Boxes;
 use flat_views::{Broken, Rule};
 use order_keys::{Bounds, Coord};
 use std::alloc::{AllocError, Global};
@@ -35,9 +36,9 @@ const FEATURE: [u8; 88] = [
     0, 0, 0, 0, 0, 0, 0, 2, 0, 0, 0, 0, 0, 0, 0, 0, 0, 0, 0, 0, 0, 0, 0, 0, 0, 0, 0,
 ];
 
-/// The box of the point (0, 0).
-fn origin() -> Bounds {
-    Bounds::of_point(Coord(0), Coord(0))
+/// The box of the point (0, 0), alone.
+fn origin() -> Boxes {
+    Boxes::one(Bounds::of_point(Coord(0), Coord(0)))
 }
 
 /// Two features behind an index of a root and two leaves, with these boxes of the root and the second leaf.
@@ -78,7 +79,7 @@ fn an_index_is_searched(rt: HostRuntime) -> Result<(), Fail> {
     assert_eq!(rt; next_of(&mut hits)?, (1, 88, 84));
     assert!(rt; hits.next().is_none());
     assert!(rt; hits.next().is_none());
-    let away = Bounds::of_point(Coord(1), Coord(0));
+    let away = Boxes::one(Bounds::of_point(Coord(1), Coord(0)));
     assert!(rt; Hits::new(&file, away)?.next().is_none());
     Ok(())
 }

@@ -9,7 +9,7 @@ use flat_views::Broken;
 use found_features::Found;
 
 /// A walk through the features of a file.
-#[derive(Clone, Copy)]
+#[derive(Drop)]
 pub(crate) enum Walk<'a> {
     /// It has ended, or broken off.
     Over,
@@ -26,7 +26,7 @@ impl<'a> Walk<'a> {
 
     /// The next feature that is found, None where no more come.
     pub(crate) fn advance(&mut self) -> Result<Option<Found<'a>>, Broken>
-        ensures goes { (image : List ℕ) (box : Box) (entries : List Entry) → WalkStands image box entries self.old → GoesOn image box entries (λ es. WalkStands image box es self.new) result }
+        ensures goes { (image : List ℕ) (boxes : List Box) (entries : List Entry) → WalkStands image boxes entries self.old → GoesOn image boxes entries (λ es. WalkStands image boxes es self.new) result }
         ensures nearer { IfOk result (λ found. OnSome found (walk_left self.new < walk_left self.old)) }
         ensures some { OnErr result (0 < walk_left self.old) }
         ensures over { self.old ≡ Over → result ≡ Ok None }

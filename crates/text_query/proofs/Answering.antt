@@ -25,7 +25,7 @@ use Rattle.found_features.specs.Stops.{IfRefused as IfQueryRefused}
 use Rattle.feature_scan.specs.Scans.{whole, part, behind as behind_in_scan, at_end}
 use Rattle.hit_reader.specs.Met.{entry_at}
 use Rattle.box_query.specs.Answers.{met, Answers, scanned, searched, AnswersPart, scanned as scanned_part, searched as searched_part, Refuses, in_scan, at_node, at_leaf}
-use Rattle.box_query.specs.Needed.{AsksNeeded, AsksNeededFront, needed}
+use Rattle.box_query.specs.Needed.{AsksNeeded, AsksNeededFront, asked as asked_positions}
 use Rattle.box_query.specs.Visited.{Visited, VisitedPart, untouched, no_start, begun, VisitedRefused, in_front, behind}
 use Rattle.text_query.specs.declared.error.TextError.{TextError}
 use Rattle.text_query.specs.declared.error.TextError.TheVariants.{Refused, SourceFailed, SinkFailed, TooLarge, Memory}
@@ -43,47 +43,47 @@ use Rattle.text_query.proofs.Writing.{text-append, Start, FailStart, Step, FailS
 -- what is found is what a filter over all features finds
 abbrev AllIsFound : Type 0
 AllIsFound =
-    (image : List ℕ) (index : Option Shape) (pieces : List (List ℕ)) (box : Bounds) (entries : List Entry)
-    → IsFile image index pieces → Answers image box entries → entries ≡ found (header_in image) box pieces
+    (image : List ℕ) (index : Option Shape) (pieces : List (List ℕ)) (boxes : List Bounds) (entries : List Entry)
+    → IsFile image index pieces → Answers image boxes entries → entries ≡ found (header_in image) boxes pieces
 
 -- what is found as far as it is known is a front of what a filter finds, in a file that breaks no rule
 abbrev PartIsFound : Type 0
 PartIsFound =
-    (image : List ℕ) (index : Option Shape) (pieces : List (List ℕ)) (box : Bounds) (entries : List Entry)
-    → IsFile image index pieces → AnswersPart image box entries → (rest : List Entry) × (entries ++ rest ≡ found (header_in image) box pieces)
+    (image : List ℕ) (index : Option Shape) (pieces : List (List ℕ)) (boxes : List Bounds) (entries : List Entry)
+    → IsFile image index pieces → AnswersPart image boxes entries → (rest : List Entry) × (entries ++ rest ≡ found (header_in image) boxes pieces)
 
 -- such a file is not refused
 abbrev pub IsNeverRefused : Type 0
 IsNeverRefused =
-    (image : List ℕ) (index : Option Shape) (pieces : List (List ℕ)) (box : Bounds) (broken : Broken) (entries : List Entry)
-    → IsFile image index pieces → Refuses image box broken entries → ⊥
+    (image : List ℕ) (index : Option Shape) (pieces : List (List ℕ)) (boxes : List Bounds) (broken : Broken) (entries : List Entry)
+    → IsFile image index pieces → Refuses image boxes broken entries → ⊥
 
 -- a refusal of a file without an index names the first unit that breaks a rule
 abbrev IsFirst : Type 0
-IsFirst = (image : List ℕ) (box : Bounds) (broken : Broken) (entries : List Entry) → IsUnindexed image → Refuses image box broken entries → BreaksFirst image broken
+IsFirst = (image : List ℕ) (boxes : List Bounds) (broken : Broken) (entries : List Entry) → IsUnindexed image → Refuses image boxes broken entries → BreaksFirst image broken
 
 -- a front of nothing is nothing
 nothing_whole : (o o' : Sink) → AppendsPart o o' [] → Appends o o' []
 nothing_whole o o' written = written.1 ∙ ap (added o.written) (take-nil written.0)
 
-module _ (image : List ℕ) (box : Bounds) where
+module _ (image : List ℕ) (boxes : List Bounds) where
   -- all that is found is found as far as it is known
-  part_of_all : (entries : List Entry) → Answers image box entries → AnswersPart image box entries
+  part_of_all : (entries : List Entry) → Answers image boxes entries → AnswersPart image boxes entries
   part_of_all entries (scanned (whole file)) = scanned_part (part (file_passes image file))
   part_of_all entries (searched is) = searched_part is.opened
 
   -- what is found before a refusal is a front of what is found as far as it is known
-  part_of_refused : (broken : Broken) (entries : List Entry) → Refuses image box broken entries → (rest : List Entry) × AnswersPart image box (entries ++ rest)
-  part_of_refused broken entries (in_scan (behind_in_scan passes early breaks)) = ([], subst (AnswersPart image box) (sym (append-nil entries)) (scanned_part (part passes)))
-  part_of_refused broken entries (in_scan (at_end passes breaks)) = ([], subst (AnswersPart image box) (sym (append-nil entries)) (scanned_part (part passes)))
-  part_of_refused broken entries (at_node {t = t} opened breaks) = (met image t box, searched_part opened)
+  part_of_refused : (broken : Broken) (entries : List Entry) → Refuses image boxes broken entries → (rest : List Entry) × AnswersPart image boxes (entries ++ rest)
+  part_of_refused broken entries (in_scan (behind_in_scan passes early breaks)) = ([], subst (AnswersPart image boxes) (sym (append-nil entries)) (scanned_part (part passes)))
+  part_of_refused broken entries (in_scan (at_end passes breaks)) = ([], subst (AnswersPart image boxes) (sym (append-nil entries)) (scanned_part (part passes)))
+  part_of_refused broken entries (at_node {t = t} opened breaks) = (met image t boxes, searched_part opened)
   part_of_refused broken entries (at_leaf {t = t} found_before rest k opened split breaks) = (
     map (entry_at image t) (k ∷ rest),
-    subst (AnswersPart image box) (ap (map (entry_at image t)) split ∙ map-append (entry_at image t) found_before (k ∷ rest)) (searched_part opened),
+    subst (AnswersPart image boxes) (ap (map (entry_at image t)) split ∙ map-append (entry_at image t) found_before (k ∷ rest)) (searched_part opened),
   )
 
   -- a file without an index is answered by a scan of a file that breaks no rule
-  pub unindexed_valid : (entries : List Entry) → Answers image box entries → IsUnindexed image → IsValid image
+  pub unindexed_valid : (entries : List Entry) → Answers image boxes entries → IsUnindexed image → IsValid image
   unindexed_valid entries (scanned (whole file)) unindexed = file_sound image file
   unindexed_valid entries (searched {t = t} is) unindexed = absurd (let e : None ≡ Some t = open_same image unindexed is.opened in cc)
 
@@ -91,15 +91,15 @@ module _ (image : List ℕ) (box : Bounds) where
 
   module _ (output : Output) (o o' : Sink) where
     -- the text of a front of what is found so far
-    part_of_front : (entries rest : List Entry) → AnswersPart image box (entries ++ rest) → AppendsPart o o' (text output (header_in image) entries) → TextPart image box output o o'
+    part_of_front : (entries rest : List Entry) → AnswersPart image boxes (entries ++ rest) → AppendsPart o o' (text output (header_in image) entries) → TextPart image boxes output o o'
     part_of_front entries rest answers written = front answers (subst (AppendsPart o o') (sym (text-append output (header_in image) entries rest))
         (part_longer o o' (text output (header_in image) entries) (flat_map (piece output (header_in image)) rest) written))
 
     -- on a file that breaks no rule it is a front of the text of its features
-    part_of_file : (index : Option Shape) (pieces : List (List ℕ)) → PartIsFound → IsFile image index pieces → TextPart image box output o o' → AppendsPart o o' (answer output (header_in image) box pieces)
-    part_of_file index pieces law file (nothing written) = part_longer o o' [] (answer output (header_in image) box pieces) (appends_part o o' [] written)
+    part_of_file : (index : Option Shape) (pieces : List (List ℕ)) → PartIsFound → IsFile image index pieces → TextPart image boxes output o o' → AppendsPart o o' (answer output (header_in image) boxes pieces)
+    part_of_file index pieces law file (nothing written) = part_longer o o' [] (answer output (header_in image) boxes pieces) (appends_part o o' [] written)
     part_of_file index pieces law file (front {entries = entries} answers written) =
-        let rest = law image index pieces box entries file answers in
+        let rest = law image index pieces boxes entries file answers in
         subst (AppendsPart o o') (sym (text-append output (header_in image) entries rest.0) ∙ ap (text output (header_in image)) rest.1)
         (part_longer o o' (text output (header_in image) entries) (flat_map (piece output (header_in image)) rest.0) written)
 
@@ -128,14 +128,14 @@ failed_apart r failed large = cc (failed, large)
 -- ## A query of a file
 
 -- what it promises
-pub record Queried {T : Type 0} (box : Bounds) (output : Output) (s s' : Source) (o o' : Sink) (result : Result T TextError) : Type 0 where
-  pub headline : OnOk result (IfTold s (λ image. (index : Option Shape) (pieces : List (List ℕ)) → IsFile image index pieces → Headline image index pieces box output s s' o o'))
-  pub headline_part : IfTold s (λ image. (index : Option Shape) (pieces : List (List ℕ)) → IsFile image index pieces → HeadlinePart image index pieces box output s s' o o')
-  pub done : OnOk result (IfTold s (λ image. TextOf image box output o o'))
+pub record Queried {T : Type 0} (boxes : List Bounds) (gap : ℕ) (output : Output) (s s' : Source) (o o' : Sink) (result : Result T TextError) : Type 0 where
+  pub headline : OnOk result (IfTold s (λ image. (index : Option Shape) (pieces : List (List ℕ)) → IsFile image index pieces → Headline image index pieces boxes gap output s s' o o'))
+  pub headline_part : IfTold s (λ image. (index : Option Shape) (pieces : List (List ℕ)) → IsFile image index pieces → HeadlinePart image index pieces boxes gap output s s' o o')
+  pub done : OnOk result (IfTold s (λ image. TextOf image boxes output o o'))
   pub sound : OnOk result (IfTold s (λ image. IsUnindexed image → IsValid image × AsksAll image s s'))
-  pub refused : IfRefused result (λ broken. IfTold s (λ image. TextRefused image box output o o' broken × (IsUnindexed image → BreaksFirst image broken)))
+  pub refused : IfRefused result (λ broken. IfTold s (λ image. TextRefused image boxes output o o' broken × (IsUnindexed image → BreaksFirst image broken)))
   pub unrefused : IfTold s (λ image. IsValid image → IfRefused result (λ _. ⊥))
-  pub part : IfTold s (λ image. TextPart image box output o o')
+  pub part : IfTold s (λ image. TextPart image boxes output o o')
   pub large : result ≡ Err TooLarge → IfTold s (λ image. IsTooWide output (header_in image) × ((index : Option Shape) × IsOpen image index) × Appends o o' [])
   pub large_done : IfTold s (λ image. (index : Option Shape) → IsOpen image index → IsTooWide output (header_in image)
       → ((result ≡ Err TooLarge) ⊎ (result ≡ Err Memory) ⊎ (result ≡ Err SourceFailed)) × Appends o o' [])
@@ -154,23 +154,23 @@ pub record Finishing {T D : Type 0} (asked : Result D QueryError) (wide : Bool) 
   pub later : o.faults ≤ o'.faults
 
 -- a query of a visitor that writes texts: by its reference and its state
-module _ {V N D : Type 0} (name : V → N) (state : V → State) (count : D → ℕ) (box : Bounds) (v w : V) where
+module _ {V N D : Type 0} (name : V → N) (state : V → State) (count : D → ℕ) (boxes : List Bounds) (gap : ℕ) (v w : V) where
   abbrev Took : List ℕ → D → Type 0
-  Took image d = Visited (Start name state) (FailStart name state) (Step name state) (FailStep name state) image box v w (count d)
+  Took image d = Visited (Start name state) (FailStart name state) (Step name state) (FailStep name state) image boxes v w (count d)
 
-  abbrev TookPart : List ℕ → Type 0
-  TookPart image = VisitedPart (Start name state) (FailStart name state) (Step name state) (FailStep name state) image box v w
+  abbrev TookPart : Source → Source → List ℕ → Type 0
+  TookPart s s' image = VisitedPart (Start name state) (FailStart name state) (Step name state) (FailStep name state) image boxes s s' v w
 
   abbrev TookRefused : List ℕ → Broken → Type 0
-  TookRefused image broken = VisitedRefused (Start name state) (FailStart name state) (Step name state) (FailStep name state) image box v w broken
+  TookRefused image broken = VisitedRefused (Start name state) (FailStart name state) (Step name state) (FailStep name state) image boxes v w broken
 
   -- what it leaves
   pub record Visiting (s s' : Source) (asked : Result D QueryError) : Type 0 where
     pub done : IfOk asked (λ d. IfTold s (λ image. Took image d))
-    pub needed : OnOk asked (IfTold s (λ image. (index : Option Shape) (pieces : List (List ℕ)) → IsFile image index pieces → AsksNeeded image index box s s'))
+    pub needed : OnOk asked (IfTold s (λ image. (index : Option Shape) (pieces : List (List ℕ)) → IsFile image index pieces → AsksNeeded image index boxes gap s s'))
     pub all : OnOk asked (IfTold s (λ image. IsUnindexed image → AsksAll image s s'))
-    pub part : OnErr asked (IfTold s (λ image. TookPart image))
-    pub needed_part : OnErr asked (IfTold s (λ image. (index : Option Shape) (pieces : List (List ℕ)) → IsFile image index pieces → AsksNeededFront image index box s s'))
+    pub part : OnErr asked (IfTold s (λ image. TookPart s s' image))
+    pub needed_part : OnErr asked (IfTold s (λ image. (index : Option Shape) (pieces : List (List ℕ)) → IsFile image index pieces → AsksNeededFront image index boxes gap s s'))
     pub refused : IfQueryRefused asked (λ broken. IfTold s (λ image. TookRefused image broken))
     pub visits : Visits (Start name state) (FailStart name state) (Step name state) (FailStep name state) v w
     pub stopped : IsErrOf asked query_error.VisitorStopped → Rose (state v).stops (state w).stops
@@ -217,7 +217,7 @@ module _ {V N D : Type 0} (name : V → N) (state : V → State) (count : D → 
         wrote_part : AppendsPart o last (text output (header_in image) entries)
         wrote_part = adds_part o (state w).sink (state w).page (text output (header_in image) entries) (adds_all name state v w (header_in image) entries empty begins) last finishing.part
 
-      text_of : IsOk asked → Appends (state w).sink last (state w).page → TextOf image box output o last
+      text_of : IsOk asked → Appends (state w).sink last (state w).page → TextOf image boxes output o last
       text_of ok written =
           let visited = (at_ok asked _ visiting.done ok).1 image told in
           record { entries = visited.entries; answers = visited.answers; written = wrote_all visited.entries visited.begins written }
@@ -229,33 +229,33 @@ module _ {V N D : Type 0} (name : V → N) (state : V → State) (count : D → 
       at_refused : (broken : Broken) → IsErrOf asked (query_error.Refused broken) → TookRefused image broken
       at_refused broken is = subst (λ r. IfQueryRefused r (λ b. IfTold s (λ bytes. TookRefused bytes b))) is visiting.refused image told
 
-      at_part : (e : QueryError) → asked ≡ Err e → TookPart image
-      at_part e is = subst (λ r. OnErr r (IfTold s (λ bytes. TookPart bytes))) is visiting.part image told
+      at_part : (e : QueryError) → asked ≡ Err e → TookPart s s' image
+      at_part e is = subst (λ r. OnErr r (IfTold s (λ bytes. TookPart s s' bytes))) is visiting.part image told
 
       at_done : (d : D) → asked ≡ Ok d → Took image d
       at_done d is = subst (λ r. IfOk r (λ x. IfTold s (λ bytes. Took bytes x))) is visiting.done image told
 
-      text_refused : (broken : Broken) → Appends (state w).sink last (state w).page → TookRefused image broken → TextRefused image box output o last broken
+      text_refused : (broken : Broken) → Appends (state w).sink last (state w).page → TookRefused image broken → TextRefused image boxes output o last broken
       text_refused broken written (in_front breaks same) = refused_in_front breaks (untouched_all same)
       text_refused broken written (behind entries refuses begins) = refused_behind refuses (wrote_all entries begins written)
 
-      part_refused : (broken : Broken) → TookRefused image broken → TextPart image box output o last
+      part_refused : (broken : Broken) → TookRefused image broken → TextPart image boxes output o last
       part_refused broken (in_front breaks same) = nothing (untouched_all same)
       part_refused broken (behind entries refuses begins) =
-          let all = part_of_refused image box broken entries refuses in part_of_front image box output o last entries all.0 all.1 (wrote_part entries begins)
+          let all = part_of_refused image boxes broken entries refuses in part_of_front image boxes output o last entries all.0 all.1 (wrote_part entries begins)
 
       -- it stopped before its end
-      part_stopped : TookPart image → TextPart image box output o last
-      part_stopped (untouched same) = nothing (untouched_all same)
-      part_stopped (no_start index opened fails) = nothing (none_whole fails.1.sink fails.1.page)
+      part_stopped : TookPart s s' image → TextPart image boxes output o last
+      part_stopped (untouched same asks) = nothing (untouched_all same)
+      part_stopped (no_start index opened fails asks) = nothing (none_whole fails.1.sink fails.1.page)
       part_stopped (begun due answers begins) =
           front answers (adds_left o (state w).sink (state w).page (text output (header_in image) due) (adds_some name state v w (header_in image) due empty begins) last finishing.part)
 
-      text_part : TextPart image box output o last
+      text_part : TextPart image boxes output o last
       text_part = by_result asked refl
         where
-          by_result : (r : Result D QueryError) → asked ≡ r → TextPart image box output o last
-          by_result (Ok d) is = let took = at_done d is in front (part_of_all image box took.entries took.answers) (wrote_part took.entries took.begins)
+          by_result : (r : Result D QueryError) → asked ≡ r → TextPart image boxes output o last
+          by_result (Ok d) is = let took = at_done d is in front (part_of_all image boxes took.entries took.answers) (wrote_part took.entries took.begins)
           by_result (Err (query_error.Refused broken)) is = part_refused broken (at_refused broken is)
           by_result (Err query_error.SourceFailed) is = part_stopped (at_part query_error.SourceFailed is)
           by_result (Err query_error.VisitorStopped) is = part_stopped (at_part query_error.VisitorStopped is)
@@ -271,9 +271,9 @@ module _ {V N D : Type 0} (name : V → N) (state : V → State) (count : D → 
       wide_refused broken wide (in_front breaks same) = narrow_wide (ap (λ x. (state x).wide) same) wide
       wide_refused broken wide (behind entries refuses begins) = narrow_wide (all_narrow name state v w (header_in image) entries begins) wide
 
-      wide_stopped : (state w).wide ≡ true → TookPart image → WasWide
-      wide_stopped wide (untouched same) = absurd (narrow_wide (ap (λ x. (state x).wide) same) wide)
-      wide_stopped wide (no_start index opened fails) =
+      wide_stopped : (state w).wide ≡ true → TookPart s s' image → WasWide
+      wide_stopped wide (untouched same asks) = absurd (narrow_wide (ap (λ x. (state x).wide) same) wide)
+      wide_stopped wide (no_start index opened fails asks) =
           ⊎_elim (λ same. absurd (narrow_wide same.0 wide)) (λ is. (is.1, (index, opened), none_whole fails.1.sink fails.1.page)) fails.1.reason
       wide_stopped wide (begun due answers begins) = absurd (narrow_wide (some_narrow name state v w (header_in image) due begins) wide)
 
@@ -298,9 +298,9 @@ module _ {V N D : Type 0} (name : V → N) (state : V → State) (count : D → 
         never_refused broken (in_front breaks same) = breaks.unreached index opened
         never_refused broken (behind entries refuses begins) = begun_fits name state v w (header_in image) begins too_wide
 
-        idle_part : TookPart image → IsIdle
-        idle_part (untouched same) = record { page = ap (λ x. (state x).page) same ∙ empty; unwritten = untouched_all same; reason = inr (ap (λ x. (state x).stops) same) }
-        idle_part (no_start other also fails) = record {
+        idle_part : TookPart s s' image → IsIdle
+        idle_part (untouched same asks) = record { page = ap (λ x. (state x).page) same ∙ empty; unwritten = untouched_all same; reason = inr (ap (λ x. (state x).stops) same) }
+        idle_part (no_start other also fails asks) = record {
           page = fails.1.page ∙ empty;
           unwritten = none_whole fails.1.sink fails.1.page;
           reason = ⊎_elim (λ same. inr same.1) (λ is. inl is.0) fails.1.reason;
@@ -346,38 +346,38 @@ module _ {V N D : Type 0} (name : V → N) (state : V → State) (count : D → 
             by_result (Err TooLarge) is = inl is
             by_result (Err Memory) is = inr (inl is)
 
-    asked_part : IfTold s (λ image. (index : Option Shape) (pieces : List (List ℕ)) → IsFile image index pieces → AsksNeededFront image index box s s')
-    asked_part = either asked _ _ _ (λ all image told index pieces file. whole_front (needed image index box) (all image told index pieces file)) (λ part. part) visiting.needed visiting.needed_part
+    asked_part : IfTold s (λ image. (index : Option Shape) (pieces : List (List ℕ)) → IsFile image index pieces → AsksNeededFront image index boxes gap s s')
+    asked_part = either asked _ _ _ (λ all image told index pieces file. whole_front (asked_positions image index boxes gap) (all image told index pieces file)) (λ part. part) visiting.needed visiting.needed_part
 
     module _ (all_found : AllIsFound) (part_found : PartIsFound) (never : IsNeverRefused) (first_broken : IsFirst) where
-      headline : (image : List ℕ) → s.image ≡ Some image → (index : Option Shape) (pieces : List (List ℕ)) → IsFile image index pieces → IsOk asked → TextOf image box output o last
-          → Headline image index pieces box output s s' o last
+      headline : (image : List ℕ) → s.image ≡ Some image → (index : Option Shape) (pieces : List (List ℕ)) → IsFile image index pieces → IsOk asked → TextOf image boxes output o last
+          → Headline image index pieces boxes gap output s s' o last
       headline image told index pieces file ok of = record {
-        written = subst (Appends o last) (ap (text output (header_in image)) (all_found image index pieces box of.entries file of.answers)) of.written;
+        written = subst (Appends o last) (ap (text output (header_in image)) (all_found image index pieces boxes of.entries file of.answers)) of.written;
         asked = (at_ok asked _ visiting.needed ok).1 image told index pieces file;
       }
 
-      first : (image : List ℕ) (broken : Broken) → TextRefused image box output o last broken → IsUnindexed image → BreaksFirst image broken
+      first : (image : List ℕ) (broken : Broken) → TextRefused image boxes output o last broken → IsUnindexed image → BreaksFirst image broken
       first image broken (refused_in_front breaks written) unindexed = breaks.first
-      first image broken (refused_behind {entries = entries} refuses written) unindexed = first_broken image box broken entries unindexed refuses
+      first image broken (refused_behind {entries = entries} refuses written) unindexed = first_broken image boxes broken entries unindexed refuses
 
       -- a file that breaks no rule is not refused
-      unrefused : (image : List ℕ) (broken : Broken) → TextRefused image box output o last broken → IsValid image → ⊥
+      unrefused : (image : List ℕ) (broken : Broken) → TextRefused image boxes output o last broken → IsValid image → ⊥
       unrefused image broken (refused_in_front breaks written) valid = first_invalid image breaks.first valid
       unrefused image broken (refused_behind {entries = entries} refuses written) valid =
           let file = valid_file image valid in
-          never image file.0 file.1 box broken entries file.2 refuses
+          never image file.0 file.1 boxes broken entries file.2 refuses
 
-      pub queried : Queried box output s s' o last result
+      pub queried : Queried boxes gap output s s' o last result
       queried = record {
         headline = on_ok_map result _ _ (λ ended image told index pieces file. headline image told index pieces file ended.0 (text_of image told ended.0 ended.1)) finishing.done;
         headline_part = λ image told index pieces file. record {
-          written = part_of_file image box output o last index pieces part_found file (text_part image told);
+          written = part_of_file image boxes output o last index pieces part_found file (text_part image told);
           asked = asked_part image told index pieces file;
         };
         done = on_ok_map result _ _ (λ ended image told. text_of image told ended.0 ended.1) finishing.done;
         sound = on_ok_map result _ _ (λ ended image told unindexed.
-            let of = text_of image told ended.0 ended.1 in (unindexed_valid image box of.entries of.answers unindexed, (at_ok asked _ visiting.all ended.0).1 image told unindexed)) finishing.done;
+            let of = text_of image told ended.0 ended.1 in (unindexed_valid image boxes of.entries of.answers unindexed, (at_ok asked _ visiting.all ended.0).1 image told unindexed)) finishing.done;
         refused = refused_map result _ _ (λ broken stop image told.
             let refusal = text_refused image told broken stop.1 (at_refused image told broken stop.0) in (refusal, first image broken refusal)) finishing.refused;
         unrefused = λ image told valid. refused_map result _ _ (λ broken stop.
@@ -390,7 +390,7 @@ module _ {V N D : Type 0} (name : V → N) (state : V → State) (count : D → 
       }
 
 -- the same of equal outputs and sinks
-pub queried_at : {T : Type 0} (box : Bounds) (a b : Output) (s s' : Source) (o p last end : Sink) (result : Result T TextError) → a ≡ b → o ≡ p → last ≡ end
-    → Queried box a s s' o last result → Queried box b s s' p end result
-queried_at box a b s s' o p last end result output sink closed is =
-    subst (λ x. Queried box x s s' p end result) output (subst (λ x. Queried box a s s' x end result) sink (subst (λ x. Queried box a s s' o x result) closed is))
+pub queried_at : {T : Type 0} (boxes : List Bounds) (gap : ℕ) (a b : Output) (s s' : Source) (o p last end : Sink) (result : Result T TextError) → a ≡ b → o ≡ p → last ≡ end
+    → Queried boxes gap a s s' o last result → Queried boxes gap b s s' p end result
+queried_at boxes gap a b s s' o p last end result output sink closed is =
+    subst (λ x. Queried boxes gap x s s' p end result) output (subst (λ x. Queried boxes gap a s s' x end result) sink (subst (λ x. Queried boxes gap a s s' o x result) closed is))

@@ -4,9 +4,9 @@ use Rattle.std.specs.List.{flat_map}
 use Rattle.std.proofs.lemmas.Grind.{flat_map-append}
 use Rattle.fgb_outside.specs.Source.{Rose}
 use Rattle.fgb_outside.proofs.Shown.{rose_since}
-use Rattle.fgb_schema.specs.Headers.{Header}
+use Rattle.fgb_schema.specs.Headers.{Header, header_of}
 use Rattle.found_features.specs.Entries.{Entry}
-use Rattle.found_features.specs.Visits.{Takes, TakesPart, some, some_and_failed, Begins, Visits, untouched, no_start, begun}
+use Rattle.found_features.specs.Visits.{HeaderBytes, Takes, TakesPart, some, some_and_failed, Begins, Visits, untouched, no_start, begun}
 use Rattle.text_query.specs.declared.output.Output.{Output}
 use Rattle.text_query.specs.declared.output.Output.TheVariants.{Lines, Fgb, Wkb}
 use Rattle.text_query.specs.Texts.{front, piece, text, IsTooWide}
@@ -75,8 +75,8 @@ module _ {V N : Type 0} (name : V → N) (state : V → State) where
   abbrev pub Start : V → Header → V → Type 0
   Start v header w = (name w ≡ name v) × Starts (state v) header (state w)
 
-  abbrev pub FailStart : V → Header → V → Type 0
-  FailStart v header w = (name w ≡ name v) × FailsStart (state v) header (state w)
+  abbrev pub FailStart : V → HeaderBytes → V → Type 0
+  FailStart v header w = (name w ≡ name v) × FailsStart (state v) (header_of header.bytes) (state w)
 
   abbrev pub Step : V → Entry → V → Type 0
   Step v e w = (name w ≡ name v) × Steps (state v) e (state w)
@@ -189,5 +189,5 @@ module _ {V N : Type 0} (name : V → N) (state : V → State) where
   -- it says that a header is too wide only of a file
   pub visits_wide : (v w : V) → Visits Start FailStart Step FailStep v w → ((state w).wide ≡ (state v).wide → ⊥) → (state v).output ≡ Fgb
   visits_wide v w (untouched same) other = absurd (other (ap (λ x. (state x).wide) same))
-  visits_wide v w (no_start {header = header} fails) other = ⊎_elim (λ same. absurd (other same.0)) (λ wide. wide_file (state v).output header wide.1) fails.1.reason
+  visits_wide v w (no_start {header = header} fails) other = ⊎_elim (λ same. absurd (other same.0)) (λ wide. wide_file (state v).output (header_of header.bytes) wide.1) fails.1.reason
   visits_wide v w (begun {header = header} begins) other = absurd (other (some_narrow v w header begins.on.0 (record { begun = begins.begun; starts = begins.starts; on = begins.on.1 })))

@@ -55,7 +55,7 @@ unfoldable pub text : Output → Header → List Entry → List ℕ
 text output h entries = front output h ++ flat_map (piece output h) entries
 
 -- that of the found ones among these features
-abbrev pub answer : Output → Header → Bounds → List (List ℕ) → List ℕ
+abbrev pub answer : Output → Header → List Bounds → List (List ℕ) → List ℕ
 answer output h query pieces = text output h (found h query pieces)
 
 -- the header cannot be written: its buffer would be larger than the format lets it be

@@ -15,37 +15,40 @@ use crate::error::TextError;
 use crate::output::Output;
 use crate::page::Page;
 use crate::writer::Writer;
+use box_list::Boxes;
 use box_query::{QueryDone, QueryError, query, searches_are_scans};
 use fgb_outside::{RangeSource, Sink};
-use order_keys::Bounds;
 use std::alloc::Global;
 
-/// Writes the text of the features whose own boxes meet the bounds, in file order.
+/// Writes the text of the features whose own boxes meet one of these boxes, in file order, each once. Asks for holes of
+/// fewer bytes than the gap between what it needs, too.
 ///
 /// Refuses the file as `query` of `box_query` does, and the text of the features before a refusal was written. TooLarge
 /// where the header of the file that was to be written would be longer than 10,485,760 bytes: then nothing was written.
 /// After another error a front of the text was.
 pub fn write_found<S: RangeSource, W: Sink>(
     alloc: Global,
-    bounds: Bounds,
+    boxes: &Boxes,
+    gap: u32,
     output: Output,
     file: &mut S,
     out: &mut W,
 ) -> Result<(), TextError>
-    // On a file that breaks no rule just the text of the features whose own boxes meet the bounds was written, and just
-    // the needed positions were asked for; or a front of both.
+    requires short { gap ≤ 1048576 }
+    // On a file that breaks no rule just the text of the features whose own boxes meet one of the boxes was written, and
+    // just the needed positions and the holes shorter than the gap were asked for; or a front of both.
     ensures headline { OnOk result (IfTold (S.seen file.old) (λ image. (index : Option Shape) (pieces : List (List ℕ)) → IsFile image index pieces
-        → Headline image index pieces bounds output (S.seen file.old) (S.seen file.new) (W.shown out.old) (W.shown out.new))) }
+        → Headline image index pieces boxes.now gap output (S.seen file.old) (S.seen file.new) (W.shown out.old) (W.shown out.new))) }
     ensures headline_part { IfTold (S.seen file.old) (λ image. (index : Option Shape) (pieces : List (List ℕ)) → IsFile image index pieces
-        → HeadlinePart image index pieces bounds output (S.seen file.old) (S.seen file.new) (W.shown out.old) (W.shown out.new)) }
+        → HeadlinePart image index pieces boxes.now gap output (S.seen file.old) (S.seen file.new) (W.shown out.old) (W.shown out.new)) }
 
     // Whatever the bytes.
-    ensures done { OnOk result (IfTold (S.seen file.old) (λ image. TextOf image bounds output (W.shown out.old) (W.shown out.new))) }
+    ensures done { OnOk result (IfTold (S.seen file.old) (λ image. TextOf image boxes.now output (W.shown out.old) (W.shown out.new))) }
     ensures sound { OnOk result (IfTold (S.seen file.old) (λ image. IsUnindexed image → IsValid image × AsksAll image (S.seen file.old) (S.seen file.new))) }
     ensures refused { IfRefused result (λ broken. IfTold (S.seen file.old) (λ image.
-        TextRefused image bounds output (W.shown out.old) (W.shown out.new) broken × (IsUnindexed image → BreaksFirst image broken))) }
+        TextRefused image boxes.now output (W.shown out.old) (W.shown out.new) broken × (IsUnindexed image → BreaksFirst image broken))) }
     ensures unrefused { IfTold (S.seen file.old) (λ image. IsValid image → IfRefused result (λ _. ⊥)) }
-    ensures part { IfTold (S.seen file.old) (λ image. TextPart image bounds output (W.shown out.old) (W.shown out.new)) }
+    ensures part { IfTold (S.seen file.old) (λ image. TextPart image boxes.now output (W.shown out.old) (W.shown out.new)) }
 
     // It is too large where the header of the file is too wide, just there, and then nothing was written.
     ensures large { result ≡ Err TextError.TooLarge → IfTold (S.seen file.old) (λ image.
@@ -58,14 +61,14 @@ pub fn write_found<S: RangeSource, W: Sink>(
     // What is asked for rises, each position once, inside the sections that may be asked for, and of an index just
     // wanted nodes.
     ensures declared { IfTold (S.seen file.old) (λ image. AsksOnly (IsDeclared image) (S.seen file.old) (S.seen file.new)) }
-    ensures search { IfTold (S.seen file.old) (λ image. (t : Shape) → IsOpen image (Some t) → AsksSearch image t bounds (S.seen file.old) (S.seen file.new)) }
+    ensures search { IfTold (S.seen file.old) (λ image. (t : Shape) → IsOpen image (Some t) → AsksSearch image t boxes.now gap (S.seen file.old) (S.seen file.new)) }
     ensures front { IfTold (S.seen file.old) (λ image. ((t : Shape) → IsOpen image (Some t) → ⊥) → AsksFront image (S.seen file.old) (S.seen file.new)) }
     ensures failed { IsErrOf result TextError.SourceFailed → Rose (S.seen file.old).faults (S.seen file.new).faults }
     ensures sink_failed { IsErrOf result TextError.SinkFailed → Rose (W.shown out.old).faults (W.shown out.new).faults }
 {
     let mut writer = Writer::new(alloc, output, out);
     searches_are_scans();
-    let asked = query(alloc, file, &bounds, &mut writer);
+    let asked = query(alloc, file, boxes, gap, &mut writer);
     let Writer {
         out,
         mut page,

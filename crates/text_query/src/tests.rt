@@ -1,6 +1,6 @@
 use super::*;
+use box_list::{Boxes, read_boxes};
 use fgb_outside::{MemorySink, MemorySource};
-use order_keys::{Bounds, Coord};
 use std::alloc::{AllocError, Global};
 use std::process::Abort;
 use std::str;
@@ -28,9 +28,7 @@ const TIMED: [u8; 72] = [
 
 const TIME: [u8; 12] = [1, 0, 0, 0, 0, 0, 0, 0, 0, 0, 0, 0];
 
-/// The patterns of 0, 1, 2, 5, 10 and 11.
-const ZERO: u64 = 0;
-
+/// The patterns of 1, 2, 5, 10 and 11.
 const ONE: u64 = 0x3FF0_0000_0000_0000;
 
 const TWO: u64 = 0x4000_0000_0000_0000;
@@ -41,8 +39,10 @@ const TEN: u64 = 0x4024_0000_0000_0000;
 
 const ELEVEN: u64 = 0x4026_0000_0000_0000;
 
-/// Three points, of which the first two lie in the box of the query.
+/// Three points, of which the first two lie in the boxes of the queries.
 const THREE: [(u64, u64); 3] = [(ONE, TWO), (TEN, TEN), (ELEVEN, FIVE)];
+
+const BOX: &str = "0,0,10,10";
 
 const LINES: &str = "0 0 84 3ff0000000000000 4000000000000000 3ff0000000000000 4000000000000000
 1 88 84 4024000000000000 4024000000000000 4024000000000000 4024000000000000
@@ -63,22 +63,26 @@ fn file_of(alloc: Global, points: &[(u64, u64)]) -> Result<Vec<u8>, AllocError> 
     Ok(file)
 }
 
-/// What is written of these bytes, under a box of these bounds.
+/// The boxes of a word.
+fn boxes_of(text: &str) -> Result<Boxes, Fail> {
+    match read_boxes(text) {
+        Ok(boxes) => Ok(boxes),
+        Err(_) => Err(Fail::new("no boxes")),
+    }
+}
+
+/// What is written of these bytes, under these boxes.
 fn written<R: Abort + AllocGlobal>(
     rt: &R,
     image: &[u8],
+    boxes: &str,
     output: Output,
 ) -> Result<MemorySink, Fail> {
     let alloc = rt.alloc();
-    let bounds = Bounds {
-        min_x: Coord(ZERO),
-        min_y: Coord(ZERO),
-        max_x: Coord(TEN),
-        max_y: Coord(TEN),
-    };
+    let boxes = boxes_of(boxes)?;
     let mut file = MemorySource::new(alloc, image, &[])?;
     let mut out = MemorySink::new(alloc, &[])?;
-    let done = write_found(alloc, bounds, output, &mut file, &mut out);
+    let done = write_found(alloc, &boxes, 0, output, &mut file, &mut out);
     assert_eq!(rt; done, Ok(()));
     Ok(out)
 }
@@ -86,7 +90,15 @@ fn written<R: Abort + AllocGlobal>(
 #[test]
 fn lines_are_written(rt: HostRuntime) -> Result<(), Fail> {
     let file = file_of(rt.alloc(), &THREE)?;
-    let out = written(&rt, &file, Output::Lines)?;
+    let out = written(&rt, &file, BOX, Output::Lines)?;
+    assert_eq!(rt; str::from_utf8(out.bytes())?, LINES);
+    Ok(())
+}
+
+#[test]
+fn a_feature_in_two_boxes_is_written_once(rt: HostRuntime) -> Result<(), Fail> {
+    let file = file_of(rt.alloc(), &THREE)?;
+    let out = written(&rt, &file, "0,0,1,2+0,0,10,10", Output::Lines)?;
     assert_eq!(rt; str::from_utf8(out.bytes())?, LINES);
     Ok(())
 }
@@ -94,7 +106,7 @@ fn lines_are_written(rt: HostRuntime) -> Result<(), Fail> {
 #[test]
 fn wkb_is_written(rt: HostRuntime) -> Result<(), Fail> {
     let file = file_of(rt.alloc(), &THREE)?;
-    let out = written(&rt, &file, Output::Wkb)?;
+    let out = written(&rt, &file, BOX, Output::Wkb)?;
     assert_eq!(rt; str::from_utf8(out.bytes())?, WKB);
     Ok(())
 }
@@ -102,7 +114,7 @@ fn wkb_is_written(rt: HostRuntime) -> Result<(), Fail> {
 #[test]
 fn a_file_is_written(rt: HostRuntime) -> Result<(), Fail> {
     let file = file_of(rt.alloc(), &THREE)?;
-    let out = written(&rt, &file, Output::Fgb)?;
+    let out = written(&rt, &file, BOX, Output::Fgb)?;
     let bytes = out.bytes();
     assert_eq!(rt; bytes.len(), 228);
     assert_eq!(rt;
@@ -120,7 +132,7 @@ fn a_point_with_a_time_has_no_wkb(rt: HostRuntime) -> Result<(), Fail> {
     file.extend_from_slice(&ONE.to_le_bytes())?;
     file.extend_from_slice(&TWO.to_le_bytes())?;
     file.extend_from_slice(&TIME)?;
-    let out = written(&rt, &file, Output::Wkb)?;
+    let out = written(&rt, &file, BOX, Output::Wkb)?;
     assert_eq!(rt; str::from_utf8(out.bytes())?, "none\n");
     Ok(())
 }

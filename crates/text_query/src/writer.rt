@@ -2,7 +2,7 @@
 ghost use Rattle.std.specs.Prelude.{◌≡◌, ◌≤◌, ◌++◌, [], None, Some, false, length, OnOk, OnErr, IsErrOf, option_map};
 ghost use Rattle.byteorder.specs.Endian.{little_bytes};
 ghost use Rattle.fgb_outside.specs.Source.{Rose};
-ghost use Rattle.fgb_schema.specs.Headers.{Header};
+ghost use Rattle.fgb_schema.specs.Headers.{Header, header_of};
 ghost use Rattle.fgb_header.specs.Views.{header_shown};
 ghost use Rattle.geometry_view.specs.Views.{geometry_shown};
 ghost use Rattle.found_features.specs.Entries.{IsSound};
@@ -143,7 +143,7 @@ fn geometry_of<'a>(header: &Option<HeaderInfo>, found: &Found<'a>) -> Option<Geo
 impl<'o, W: Sink> Visitor for Writer<'o, W> {
     ghost start = { λ v h w. (w.out.ghost_name ≡ v.out.ghost_name) × Starts (state_of (W.shown v.out.now) v) h (state_of (W.shown w.out.now) w) };
 
-    ghost failed_start = { λ v h w. (w.out.ghost_name ≡ v.out.ghost_name) × FailsStart (state_of (W.shown v.out.now) v) h (state_of (W.shown w.out.now) w) };
+    ghost failed_start = { λ v h w. (w.out.ghost_name ≡ v.out.ghost_name) × FailsStart (state_of (W.shown v.out.now) v) (header_of h.bytes) (state_of (W.shown w.out.now) w) };
 
     ghost step = { λ v e w. (w.out.ghost_name ≡ v.out.ghost_name) × Steps (state_of (W.shown v.out.now) v) e (state_of (W.shown w.out.now) w) };
 

@@ -71,7 +71,7 @@ pub(super) fn ranges_of(
 }
 
 /// Runs these words over these bytes, and wants this status and these texts. Gives what was asked for.
-fn ends<R: Abort + AllocGlobal>(
+pub(super) fn ends<R: Abort + AllocGlobal>(
     rt: &R,
     words: &[&str],
     image: &[u8],
@@ -103,7 +103,8 @@ fn finds<R: Abort + AllocGlobal>(
 }
 
 /// The lines of the points 30 to 33.
-const FOUR: &str = "30 2640 84 403e000000000000 0000000000000000 403e000000000000 0000000000000000
+pub(super) const FOUR: &str =
+    "30 2640 84 403e000000000000 0000000000000000 403e000000000000 0000000000000000
 31 2728 84 403f000000000000 0000000000000000 403f000000000000 0000000000000000
 32 2816 84 4040000000000000 0000000000000000 4040000000000000 0000000000000000
 33 2904 84 4040800000000000 0000000000000000 4040800000000000 0000000000000000

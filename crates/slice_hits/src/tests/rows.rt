@@ -1,5 +1,6 @@
 // Hits beside a query of the same bytes.
 use super::*;
+use box_list::read_boxes;
 use box_query::{Collect, QueryDone, query};
 use fgb_outside::MemorySource;
 use node_items::NodeItem;
@@ -62,13 +63,22 @@ fn row(alloc: Global) -> Result<Vec<u8>, Fail> {
     Ok(file)
 }
 
+/// The boxes that a text spells.
+fn boxes_of(text: &str) -> Result<Boxes, Fail> {
+    match read_boxes(text) {
+        Ok(boxes) => Ok(boxes),
+        Err(_) => Err(Fail::new("no boxes")),
+    }
+}
+
 /// Wants the hits in these bytes to be what a query of them finds, and gives how many there are.
-fn agree<R: Abort + AllocGlobal>(rt: &R, file: &[u8], bounds: Bounds) -> Result<usize, Fail> {
+fn agree<R: Abort + AllocGlobal>(rt: &R, file: &[u8], text: &str) -> Result<usize, Fail> {
     let alloc = rt.alloc();
+    let boxes = boxes_of(text)?;
     let mut source = MemorySource::new(alloc, file, &[])?;
     let mut all = Collect::new(alloc);
-    assert!(rt; query(alloc, &mut source, &bounds, &mut all).is_ok());
-    let mut hits = Hits::new(file, bounds)?;
+    assert!(rt; query(alloc, &mut source, &boxes, 0, &mut all).is_ok());
+    let mut hits = Hits::new(file, boxes)?;
     for i in 0..all.len() {
         let Some(found) = hits.next() else {
             return Err(Fail::new("too few hits"));
@@ -89,22 +99,24 @@ fn three_points_are_found_alike(rt: HostRuntime) -> Result<(), Fail> {
     push_point(&mut file, 1, 2)?;
     push_point(&mut file, 10, 10)?;
     push_point(&mut file, 11, 5)?;
-    assert_eq!(rt; agree(&rt, &file, box_of(0, 0, 10, 10)?)?, 2);
+    assert_eq!(rt; agree(&rt, &file, "0,0,10,10")?, 2);
     Ok(())
 }
 
 #[test]
 fn a_row_is_found_alike(rt: HostRuntime) -> Result<(), Fail> {
     let file = row(rt.alloc())?;
-    assert_eq!(rt; agree(&rt, &file, box_of(30, -1, 33, 1)?)?, 4);
-    assert_eq!(rt; agree(&rt, &file, box_of(200, 200, 201, 201)?)?, 0);
-    assert_eq!(rt; agree(&rt, &file, box_of(-1, -1, 200, 1)?)?, 179);
+    assert_eq!(rt; agree(&rt, &file, "30,-1,33,1")?, 4);
+    assert_eq!(rt; agree(&rt, &file, "30,-1,33,1+170,-1,178,1")?, 13);
+    assert_eq!(rt; agree(&rt, &file, "30,-1,33,1+31,-1,32,1")?, 4);
+    assert_eq!(rt; agree(&rt, &file, "200,200,201,201")?, 0);
+    assert_eq!(rt; agree(&rt, &file, "-1,-1,200,1")?, 179);
     Ok(())
 }
 
 #[test]
 fn nothing_is_found_alike(rt: HostRuntime) -> Result<(), Fail> {
-    assert_eq!(rt; agree(&rt, &EMPTY, box_of(0, 0, 10, 10)?)?, 0);
+    assert_eq!(rt; agree(&rt, &EMPTY, "0,0,10,10")?, 0);
     Ok(())
 }
 
@@ -115,11 +127,11 @@ fn a_node_that_misses_hides_its_leaves(rt: HostRuntime) -> Result<(), Fail> {
     let max_x = 0x402D_FFFF_FFFF_FFFFu64.to_le_bytes();
     assert!(rt; file.len() >= 124);
     file[116..124].copy_from_slice(&max_x);
-    let bounds = box_of(15, -1, 15, 1)?;
-    assert!(rt; Hits::new(&file, bounds)?.next().is_none());
+    assert!(rt; Hits::new(&file, boxes_of("15,-1,15,1")?)?.next().is_none());
+    let boxes = boxes_of("15,-1,15,1")?;
     let mut source = MemorySource::new(rt.alloc(), &file, &[])?;
     let mut none = Collect::new(rt.alloc());
-    let done = query(rt.alloc(), &mut source, &bounds, &mut none);
+    let done = query(rt.alloc(), &mut source, &boxes, 0, &mut none);
     assert_eq!(rt; done, Ok(QueryDone { found: 0 }));
     // the start, the header, the root, and the nodes below it
     let reads = [(0, 12), (12, 48), (60, 40), (100, 480)];

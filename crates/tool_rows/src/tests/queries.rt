@@ -27,6 +27,16 @@ fn a_query_is_answered(rt: HostRuntime) -> Result<(), Fail> {
 }
 
 #[test]
+fn several_boxes_are_sought(rt: HostRuntime) -> Result<(), Fail> {
+    let three = file_of(rt.alloc(), &THREE)?;
+    let words = ["query", "three.fgb", "--box=1,2,1,2+11,5,11,5"];
+    let lines = "0 0 84 3ff0000000000000 4000000000000000 3ff0000000000000 4000000000000000
+2 176 84 4026000000000000 4014000000000000 4026000000000000 4014000000000000
+";
+    answers(&rt, &words, &three, lines)
+}
+
+#[test]
 fn a_polygon_is_found(rt: HostRuntime) -> Result<(), Fail> {
     // the header says Polygon: one ring of one point
     let mut file = file_of(rt.alloc(), &[(ONE, TWO)])?;

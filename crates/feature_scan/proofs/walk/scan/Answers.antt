@@ -16,7 +16,7 @@ use Rattle.feature_scan.proofs.walk.scan.Goals.{then-branch-2, else-branch-2}
 pub loop-pieces-init : goal.loop-pieces-init
 loop-pieces-init g c = record {
   walk = let new = c.new-pieces.ensures in
-      goes_start g.V.Visitor.step g.V.Visitor.failed_step (header_shown c.args.header.now) c.args.bounds c.args.first c.args.end c.new-pieces.result c.new-tally.result (g.S.RangeSource.seen c.args.source.now) c.args.visitor.now
+      goes_start g.V.Visitor.step g.V.Visitor.failed_step (header_shown c.args.header.now) c.args.boxes.now c.args.first c.args.end c.new-pieces.result c.new-tally.result (g.S.RangeSource.seen c.args.source.now) c.args.visitor.now
       (new.shows _ c.requires.inside) new.next c.new-tally.ensures.none (λ image begun told. c.new-tally.ensures.counts image begun (c.features_count.ensures ∙ told));
   later = omega arith;
   handed = some_nothing g.V.Visitor.step c.args.visitor.now;

@@ -7,7 +7,7 @@ use Rattle.feature_scan.proofs.walk.scan.Given as goal
 
 abbrev pub invariant-loop-pieces : goal.invariant-loop-pieces
 invariant-loop-pieces g l = record {
-  walk : Goes g.V.Visitor.step (header_shown l.header) l.bounds l.first l.end l.initial.pieces l.pieces l.tally l.count (g.S.RangeSource.seen l.initial.source) (g.S.RangeSource.seen l.source) l.initial.visitor l.visitor;
+  walk : Goes g.V.Visitor.step (header_shown l.header) l.boxes l.first l.end l.initial.pieces l.pieces l.tally l.count (g.S.RangeSource.seen l.initial.source) (g.S.RangeSource.seen l.source) l.initial.visitor l.visitor;
   later : g.V.Visitor.stops l.initial.visitor ≤ g.V.Visitor.stops l.visitor;
   handed : TakesSome g.V.Visitor.step l.initial.visitor l.visitor;
   tells : g.V.Visitor.told l.visitor ≡ g.V.Visitor.told l.initial.visitor;

@@ -8,7 +8,7 @@ use Rattle.fgb_tool.proofs.top.run.Goals as goal
 pub returns-in-Some-Query-clause-does : goal.returns-in-Some-Query-clause-does
 returns-in-Some-Query-clause-does g c = λ request asks done.
     let left = c.write_found-written.ensures in let sought = c.in-Some-Query.sought in
-    let queried : Queried sought.bounds sought.output (g.S.RangeSource.seen c.args.file.now) (g.S.RangeSource.seen c.write_found-written.new.file) (g.W.Sink.shown c.args.out.now) (g.W.Sink.shown c.write_found-written.new.out) c.write_found-written.result = record {
+    let queried : Queried sought.boxes sought.gap sought.output (g.S.RangeSource.seen c.args.file.now) (g.S.RangeSource.seen c.write_found-written.new.file) (g.W.Sink.shown c.args.out.now) (g.W.Sink.shown c.write_found-written.new.out) c.write_found-written.result = record {
       headline = left.headline;
       headline_part = left.headline_part;
       done = left.done;
@@ -25,7 +25,7 @@ returns-in-Some-Query-clause-does g c = λ request asks done.
       failed = left.failed;
       sink_failed = left.sink_failed;
     } in
-    does_query _ _ _ _ _ _ _ c.map_err.result c.status_of.ensures (input_in sought.file) sought.bounds sought.output request c.write_found-written.result c.map_err.ensures.cases queried
+    does_query _ _ _ _ _ _ _ c.map_err.result c.status_of.ensures (input_in sought.file) sought.boxes sought.gap sought.output request c.write_found-written.result c.map_err.ensures.cases queried
     (ap request_of (sym c.in-Some-Query.field-0-is) ∙ c.in-Some-Query.ensures.only request asks)
 
 pub returns-in-Some-Check-clause-does : goal.returns-in-Some-Check-clause-does

@@ -15,8 +15,8 @@ lines_of-requires c = subst IsValid (sym c.deref-2.ensures.value) (file_sound c.
 
 pub returns : goal.returns
 returns c =
-    let box = c.ten_around-bounds.result in let many = c.in_ok-found.found in let lines = c.in_ok-lines.lines in
-    made_text c.args.count c.args.start c.in_ok-made.made box many c.len.result lines _ c.in_ok-made.ensures c.ten_around-bounds.ensures
-    (subst (λ image. (index : Option Shape) (pieces : List (List ℕ)) → IsFile image index pieces → many ≡ length (found (header_in image) box pieces)) c.deref.ensures.value c.in_ok-found.ensures)
-    (subst (λ image. AreLines image box lines) c.deref-2.ensures.value c.in_ok-lines.ensures)
+    let boxes = c.one-boxes.result in let many = c.in_ok-found.found in let lines = c.in_ok-lines.lines in
+    made_text c.args.count c.args.start c.in_ok-made.made c.ten_around.result boxes many c.len.result lines _ c.one-boxes.ensures c.in_ok-made.ensures c.ten_around.ensures.around
+    (subst (λ image. (index : Option Shape) (pieces : List (List ℕ)) → IsFile image index pieces → many ≡ length (found (header_in image) boxes pieces)) c.deref.ensures.value c.in_ok-found.ensures)
+    (subst (λ image. AreLines image boxes lines) c.deref-2.ensures.value c.in_ok-lines.ensures)
     (c.len.ensures ∙ sym c.deref.ensures.len ∙ ap length c.deref.ensures.value) c.in_ok-push_summary.ensures

@@ -15,7 +15,7 @@ kept g c =
     visits_same name states c.new-feeder.result c.query-asked.new.visitor c.query-asked.ensures.visits
 
 promised : (g : Over) (c : goal.After-ended g) (items : _) → items ≡ c.query-asked.new.visitor.reports.now.items
-    → Feeds c.args.bounds.now (g.S.RangeSource.seen c.args.file.now) (g.S.RangeSource.seen c.query-asked.new.source)
+    → Feeds c.args.boxes.now c.args.gap (g.S.RangeSource.seen c.args.file.now) (g.S.RangeSource.seen c.query-asked.new.source)
     (map (λ r. (goal.Reporter-dyn g (r.vtable, r.value)).shown r.value) c.args.reports.now.items)
     (map (λ r. (goal.Reporter-dyn g (r.vtable, r.value)).shown r.value) items) c.ended.result
 promised g c items is =
@@ -26,7 +26,7 @@ promised g c items is =
     let states = λ (x : Feeder _ _). map (λ r. (goal.Reporter-dyn g (r.vtable, r.value)).shown r.value) x.reports.now.items in
     let count = λ (d : QueryDone). d.found in
     let scans : AreScans = record { whole = law.whole; part = law.part; never = law.never; first = law.first } in
-    let visiting : Visiting name states count c.args.bounds.now v w s s' c.query-asked.result c.ended.result = record {
+    let visiting : Visiting name states count c.args.boxes.now c.args.gap v w s s' c.query-asked.result c.ended.result = record {
       done = asked.done;
       needed = asked.needed;
       all = asked.all;
@@ -38,7 +38,7 @@ promised g c items is =
       front = asked.front;
       refused = asked.refused;
     } in
-    let ending : Ending name states count c.args.bounds.now v w s s' c.query-asked.result c.ended.result = record {
+    let ending : Ending name states count c.args.boxes.now c.args.gap v w s s' c.query-asked.result c.ended.result = record {
       done = told.done;
       stopped = told.stopped;
       refused = told.refused;
@@ -46,8 +46,8 @@ promised g c items is =
       no_sink = told.no_sink;
       no_limit = told.no_limit;
     } in
-    feeds_at c.args.bounds.now s s' (states v) (states w) _ _ c.ended.result (ap (λ x. map (λ r. (goal.Reporter-dyn g (r.vtable, r.value)).shown r.value) x.items) c.new-feeder.ensures.unfed) (ap (map (λ r. (goal.Reporter-dyn g (r.vtable, r.value)).shown r.value)) (sym is))
-    (feeds name states count c.args.bounds.now v w s s' c.query-asked.result c.ended.result scans visiting ending)
+    feeds_at c.args.boxes.now c.args.gap s s' (states v) (states w) _ _ c.ended.result (ap (λ x. map (λ r. (goal.Reporter-dyn g (r.vtable, r.value)).shown r.value) x.items) c.new-feeder.ensures.unfed) (ap (map (λ r. (goal.Reporter-dyn g (r.vtable, r.value)).shown r.value)) (sym is))
+    (feeds name states count c.args.boxes.now c.args.gap v w s s' c.query-asked.result c.ended.result scans visiting ending)
 
 pub returns : goal.returns
 returns g c = promised g c _ (search (rules, kept g c))

@@ -9,14 +9,14 @@ use Rattle.text_query.proofs.query.write_found.Given.{Over}
 use Rattle.text_query.proofs.query.write_found.Goals as goal
 
 promised : (g : Over) (c : goal.After-drop-page g) (out : g.row.W.Denot) → out ≡ c.finish.new.out
-    → Queried c.args.bounds c.args.output (g.S.RangeSource.seen c.args.file.now) (g.S.RangeSource.seen c.query-asked.new.source) (g.W.Sink.shown c.args.out.now) (g.W.Sink.shown out) c.finish.result
+    → Queried c.args.boxes.now c.args.gap c.args.output (g.S.RangeSource.seen c.args.file.now) (g.S.RangeSource.seen c.query-asked.new.source) (g.W.Sink.shown c.args.out.now) (g.W.Sink.shown out) c.finish.result
 promised g c out closes =
     let asked = c.query-asked.ensures in let ended = c.finish.ensures in let law = c.searches_are_scans.ensures in
     let v = c.new-writer.result in let w = c.query-asked.new.visitor in
     let name = λ (x : Writer g.row.W.Denot). x.out.ghost_name in
     let state = λ (x : Writer g.row.W.Denot). state_of (g.W.Sink.shown x.out.now) x in
     let count = λ (d : QueryDone). d.found in
-    let visiting : Visiting name state count c.args.bounds v w (g.S.RangeSource.seen c.args.file.now) (g.S.RangeSource.seen c.query-asked.new.source) c.query-asked.result = record {
+    let visiting : Visiting name state count c.args.boxes.now c.args.gap v w (g.S.RangeSource.seen c.args.file.now) (g.S.RangeSource.seen c.query-asked.new.source) c.query-asked.result = record {
       done = asked.done;
       needed = asked.needed;
       all = asked.all;
@@ -36,8 +36,8 @@ promised g c out closes =
       too_wide = ended.wide;
       later = ended.later;
     } in
-    queried_at c.args.bounds _ _ _ _ _ _ _ _ c.finish.result c.new-writer.ensures.output c.new-writer.ensures.out (sym (ap g.W.Sink.shown closes))
-    (queried name state count c.args.bounds v w _ _ c.query-asked.result _ c.finish.result visiting finishing c.new-writer.ensures.empty c.new-writer.ensures.fits c.new-writer.ensures.starts law.whole law.part law.never law.first)
+    queried_at c.args.boxes.now c.args.gap _ _ _ _ _ _ _ _ c.finish.result c.new-writer.ensures.output c.new-writer.ensures.out (sym (ap g.W.Sink.shown closes))
+    (queried name state count c.args.boxes.now c.args.gap v w _ _ c.query-asked.result _ c.finish.result visiting finishing c.new-writer.ensures.empty c.new-writer.ensures.fits c.new-writer.ensures.starts law.whole law.part law.never law.first)
 
 -- the writer still holds the caller's reference
 kept : (g : Over) (c : goal.After-drop-page g) → c.query-asked.new.visitor.out.ghost_name ≡ c.new-writer.result.out.ghost_name

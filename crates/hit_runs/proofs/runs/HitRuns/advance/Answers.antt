@@ -7,7 +7,7 @@ use Rattle.fgb_header.specs.Views.{header_shown}
 use Rattle.hit_runs.specs.Leaves.{IsLeaf, IsAlike, IsDue}
 use Rattle.hit_runs.proofs.Refusing.{refused_exit, refused_map, on_err_told}
 use Rattle.hit_runs.proofs.Leaves.{buffer_is, due_there, breaks_place, breaks_prefix, breaks_read, lends_there, behind_there}
-use Rattle.hit_runs.proofs.Advancing.{at_passed, over_passed, rises_fetched, rises_read, rises_part, rises_none, rises_ended, pays_ended, due_again, turn_is, more_is, later_is, is_again, laid_here, front_part, pays_read, front_read}
+use Rattle.hit_runs.proofs.Advancing.{at_passed, over_passed, rises_fetched, rises_read, rises_part, rises_none, rises_ended, pays_ended, due_again, turn_is, more_is, later_is, is_again, laid_here, front_part, pays_read, front_read, sound_lent}
 use Rattle.hit_runs.proofs.runs.HitRuns.advance.Goals as goal
 
 pub returns-then-self-len-clause-goes : goal.returns-then-self-len-clause-goes
@@ -34,7 +34,7 @@ returns-in_err-place-clause-refused g c = let p = c.args.self.now in
 
 pub returns-in_err-place-clause-again : goal.returns-in_err-place-clause-again
 returns-in_err-place-clause-again g c = let p = c.args.self.now in
-    is_again c.from_residual.result c.args.section.now p _ (g.S.RangeSource.seen c.args.source.now) refl
+    is_again c.from_residual.result c.args.section.now p _ (g.S.RangeSource.seen c.args.source.now) (omega (arith, p.in_list, c.if-self-len.false, c.len.ensures)) refl
     (λ image told t k hit within turn is due.
     let here : c.pass.new.self.held.at + 0 ≡ p.window.held.at + p.len = omega (arith, at_passed c.args.section.now p.window c.pass.new.self p.len c.pass.ensures p.held_whole) in
     subst (IsDue image t k) (sym here) due)
@@ -56,7 +56,7 @@ returns-in_err-len-clause-refused g c = let p = c.args.self.now in
 
 pub returns-in_err-len-clause-again : goal.returns-in_err-len-clause-again
 returns-in_err-len-clause-again g c = let p = c.args.self.now in
-    is_again c.from_residual-in_err-len.result c.args.section.now p _ (g.S.RangeSource.seen c.args.source.now) refl
+    is_again c.from_residual-in_err-len.result c.args.section.now p _ (g.S.RangeSource.seen c.args.source.now) (omega (arith, p.in_list, c.if-self-len.false, c.len.ensures)) refl
     (λ image told t k hit within turn is due.
     let same = c.index-hit.ensures ∙ turn_is p.hits.items p.given hit c.index-hit.result.now (omega (arith, p.in_list, c.if-self-len.false, c.len.ensures)) turn in
     let here : c.pass.new.self.held.at ≡ p.window.held.at + p.len = at_passed c.args.section.now p.window c.pass.new.self p.len c.pass.ensures p.held_whole in
@@ -93,7 +93,7 @@ returns-in_err-bounds-clause-refused g c = let p = c.args.self.now in let r = c.
 
 pub returns-in_err-bounds-clause-again : goal.returns-in_err-bounds-clause-again
 returns-in_err-bounds-clause-again g c = let p = c.args.self.now in
-    is_again c.from_residual-in_err-bounds.result c.args.section.now p _ (g.S.RangeSource.seen c.args.source.now) refl
+    is_again c.from_residual-in_err-bounds.result c.args.section.now p _ (g.S.RangeSource.seen c.args.source.now) (omega (arith, p.in_list, c.if-self-len.false, c.len.ensures)) refl
     (λ image told t k hit within turn is due.
     let same = c.index-hit.ensures ∙ turn_is p.hits.items p.given hit c.index-hit.result.now (omega (arith, p.in_list, c.if-self-len.false, c.len.ensures)) turn in
     let there : c.fetch.new.window.held.at + 0 ≡ c.in_ok-place.place = omega (arith, c.in_ok-len.ensures.fetches.at) in
@@ -119,6 +119,7 @@ returns-clause-comes g c = let p = c.args.self.now in let r = c.in_ok-len.ensure
       turn = slice_get-get_or p.hits.items p.given c.index-hit.result.now (omega (arith, p.in_list, c.if-self-len.false, c.len.ensures)) ∙ ap Some (sym c.index-hit.ensures);
       given = refl;
       some = r.lies.0;
+      sound = sound_lent (header_shown c.args.section.now.header.now) c.index-hit.result.now _ _ c.in_ok-len.len c.in_ok-bounds.bounds _ _ c.bytes.ensures.value r.lies.2 r.lies.1 c.in_ok-bounds.ensures.alike;
       lends = λ image told t k within is.
           let there = c.in_ok-place.ensures.there in
           let framed = r.framed image told within.end in

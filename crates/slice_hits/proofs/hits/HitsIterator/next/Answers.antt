@@ -5,15 +5,15 @@ use Rattle.slice_hits.proofs.hits.HitsIterator.next.Goals as goal
 
 pub returns-in-Ok-Some-clause-steps : goal.returns-in-Ok-Some-clause-steps
 returns-in-Ok-Some-clause-steps c = record {
-  gives = λ image box entries given.
-      gives_found image box entries (λ es. WalkStands image box es c.advance.new.self) c.advance.result c.in-Ok-Some.field-0 c.in-Ok-Some.found c.in-Ok-Some.is c.in-Ok-Some.field-0-is
-      (c.advance.ensures.goes image box entries given);
+  gives = λ image boxes entries given.
+      gives_found image boxes entries (λ es. WalkStands image boxes es c.advance.new.self) c.advance.result c.in-Ok-Some.field-0 c.in-Ok-Some.found c.in-Ok-Some.is c.in-Ok-Some.field-0-is
+      (c.advance.ensures.goes image boxes entries given);
   rests = λ over. absurd (none_found c.advance.result c.in-Ok-Some.field-0 c.in-Ok-Some.found c.in-Ok-Some.is c.in-Ok-Some.field-0-is (c.advance.ensures.over over));
 }
 
 pub returns-in-Ok-None-clause-steps : goal.returns-in-Ok-None-clause-steps
 returns-in-Ok-None-clause-steps c = record {
-  gives = λ image box entries given.
-      (gives_none image box entries (λ es. WalkStands image box es c.advance.new.self) c.advance.result c.in-Ok-None.field-0 c.in-Ok-None.is c.in-Ok-None.field-0-is (c.advance.ensures.goes image box entries given), refl);
+  gives = λ image boxes entries given.
+      (gives_none image boxes entries (λ es. WalkStands image boxes es c.advance.new.self) c.advance.result c.in-Ok-None.field-0 c.in-Ok-None.is c.in-Ok-None.field-0-is (c.advance.ensures.goes image boxes entries given), refl);
   rests = λ over. (refl, refl);
 }

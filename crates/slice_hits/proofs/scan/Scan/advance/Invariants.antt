@@ -8,7 +8,7 @@ abbrev pub invariant-loop-self : goal.invariant-loop-self
 invariant-loop-self l = record {
   same : length l.self.features.bytes.now ≡ length l.fn.self.features.bytes.now;
   onward : l.fn.self.at ≤ l.self.at;
-  stands : (image : List ℕ) (box : Bounds) (entries : List Entry) → Stands image box entries l.fn.self → Stands image box entries l.self;
+  stands : (image : List ℕ) (boxes : List Bounds) (entries : List Entry) → Stands image boxes entries l.fn.self → Stands image boxes entries l.self;
 }
 
 abbrev pub decreases-loop-self : goal.decreases-loop-self

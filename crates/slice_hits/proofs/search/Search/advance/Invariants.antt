@@ -6,7 +6,7 @@ use Rattle.slice_hits.proofs.search.Search.advance.Given as goal
 
 abbrev pub invariant-loop-self : goal.invariant-loop-self
 invariant-loop-self l = record {
-  stands : (image : List ℕ) (box : Bounds) (entries : List Entry) → Stands image box entries l.fn.self → Stands image box entries l.self;
+  stands : (image : List ℕ) (boxes : List Bounds) (entries : List Entry) → Stands image boxes entries l.fn.self → Stands image boxes entries l.self;
   fewer : left l.self ≤ left l.fn.self;
 }
 

@@ -16,7 +16,7 @@ returns-in_err-judge_root-clause-refused c = λ k i is here.
 pub returns-then-not-meets-clause-goes : goal.returns-then-not-meets-clause-goes
 returns-then-not-meets-clause-goes c = λ k i is here.
     let s = c.args.self.now in
-    visit_past (tree_of s) s.levels.shaped.shaped k i c.args.node is here (nodes_of s) s.place s.bounds c.item-item.result c.item-item.ensures c.next_behind.result c.if-not-meets.ensures.value (c.next_behind.ensures k i is here)
+    visit_past (tree_of s) s.levels.shaped.shaped k i c.args.node is here (nodes_of s) s.place s.boxes c.item-item.result c.item-item.ensures c.next_behind.result c.if-not-meets.ensures (c.next_behind.ensures k i is here)
 
 pub returns-then-not-meets-clause-next : goal.returns-then-not-meets-clause-next
 returns-then-not-meets-clause-next c =
@@ -27,8 +27,8 @@ returns-then-not-meets-clause-next c =
 pub returns-then-node-first-clause-goes : goal.returns-then-node-first-clause-goes
 returns-then-node-first-clause-goes c = λ k i is here.
     let s = c.args.self.now in
-    visit_leaf (tree_of s) s.levels.shaped.shaped k i c.args.node is here (nodes_of s) s.place s.bounds c.item-item.result c.item-item.ensures c.level-first.result.0 c.next_behind-then-node-first.result c.level-first.ensures.first c.if-node-first.true
-    c.if-not-meets.ensures.value (c.next_behind-then-node-first.ensures k i is here)
+    visit_leaf (tree_of s) s.levels.shaped.shaped k i c.args.node is here (nodes_of s) s.place s.boxes c.item-item.result c.item-item.ensures c.level-first.result.0 c.next_behind-then-node-first.result c.level-first.ensures.first c.if-node-first.true
+    c.if-not-meets.ensures (c.next_behind-then-node-first.ensures k i is here)
 
 pub returns-then-node-first-clause-next : goal.returns-then-node-first-clause-next
 returns-then-node-first-clause-next c =
@@ -42,10 +42,10 @@ returns-in_err-judge-clause-refused c = λ k i is here.
     let t = tree_of s in
     let shape = s.levels.shaped.shaped in
     let front : c.args.node < place t 0 0 = omega (arith, c.if-node-first.false, c.level-first.ensures.first) in
-    let children = are_children t shape k i c.args.node is here (nodes_of s) s.place s.bounds c.item-item.result c.item-item.ensures front c.group-first.result.0 c.group-first.result.1 c.group-first.ensures.children in
-    let parent = parent_is t shape k i c.args.node is here (nodes_of s) s.place s.bounds c.item-item.result c.item-item.ensures front c.group-first.result.0 c.group-first.result.1 c.group-first.ensures.children in
+    let children = are_children t shape k i c.args.node is here (nodes_of s) s.place s.boxes c.item-item.result c.item-item.ensures front c.group-first.result.0 c.group-first.result.1 c.group-first.ensures.children in
+    let parent = parent_is t shape k i c.args.node is here (nodes_of s) s.place s.boxes c.item-item.result c.item-item.ensures front c.group-first.result.0 c.group-first.result.1 c.group-first.ensures.children in
     err_exit _ c.from_residual-in_err-judge.result c.in_err-judge.field-0.0 c.from_residual-in_err-judge.ensures.1
-    (visit_refused t shape k i c.args.node is here (nodes_of s) s.place s.bounds c.item-item.result c.item-item.ensures front c.group-first.result.0 c.group-first.result.1 c.group-first.ensures.children c.if-not-meets.ensures.value c.in_err-judge.field-0.0
+    (visit_refused t shape k i c.args.node is here (nodes_of s) s.place s.boxes c.item-item.result c.item-item.ensures front c.group-first.result.0 c.group-first.result.1 c.group-first.ensures.children c.if-not-meets.ensures c.in_err-judge.field-0.0
     (c.in_err-judge.ensures.group (k - 1) i children parent))
 
 pub returns-clause-goes : goal.returns-clause-goes
@@ -54,7 +54,7 @@ returns-clause-goes c = λ k i is here.
     let t = tree_of s in
     let shape = s.levels.shaped.shaped in
     let front : c.args.node < place t 0 0 = omega (arith, c.if-node-first.false, c.level-first.ensures.first) in
-    let children = are_children t shape k i c.args.node is here (nodes_of s) s.place s.bounds c.item-item.result c.item-item.ensures front c.group-first.result.0 c.group-first.result.1 c.group-first.ensures.children in
-    let parent = parent_is t shape k i c.args.node is here (nodes_of s) s.place s.bounds c.item-item.result c.item-item.ensures front c.group-first.result.0 c.group-first.result.1 c.group-first.ensures.children in
-    visit_down t shape k i c.args.node is here (nodes_of s) s.place s.bounds c.item-item.result c.item-item.ensures front c.group-first.result.0 c.group-first.result.1 c.group-first.ensures.children c.if-not-meets.ensures.value
+    let children = are_children t shape k i c.args.node is here (nodes_of s) s.place s.boxes c.item-item.result c.item-item.ensures front c.group-first.result.0 c.group-first.result.1 c.group-first.ensures.children in
+    let parent = parent_is t shape k i c.args.node is here (nodes_of s) s.place s.boxes c.item-item.result c.item-item.ensures front c.group-first.result.0 c.group-first.result.1 c.group-first.ensures.children in
+    visit_down t shape k i c.args.node is here (nodes_of s) s.place s.boxes c.item-item.result c.item-item.ensures front c.group-first.result.0 c.group-first.result.1 c.group-first.ensures.children c.if-not-meets.ensures
     (c.in_ok-judge.ensures.group (k - 1) i children parent)
