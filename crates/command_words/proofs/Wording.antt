@@ -11,7 +11,8 @@ use Rattle.order_keys.specs.declared.bounds.Bounds.{Bounds}
 use Rattle.text_query.specs.declared.output.Output.{Output}
 use Rattle.command_words.specs.declared.command.Command.{Command}
 use Rattle.command_words.specs.declared.command.Command.TheVariants.{Query, Check, Pack, Convert, Make, Report, Serve}
-use Rattle.command_words.specs.Words.{Input, is_number, texts}
+use Rattle.std.specs.Prelude.{Option}
+use Rattle.command_words.specs.Words.{Comparison, Input, is_number, texts}
 use Rattle.command_words.specs.declared.format.Format.{Format}
 use Rattle.command_words.specs.Requests.{Request, query, check, pack, convert, make, report, serve, command_of, command_name, Asks, AsksBehind, AsksQuery, AsksCheck, AsksPack, AsksConvert, AsksMake, AsksReport, AsksServe}
 
@@ -73,8 +74,8 @@ pub headed : (words : List (Bor (List ℕ))) (d : Bor (List ℕ)) → 1 ≤ leng
 headed words d some found command request is same asks = heads (texts words) _ (get_or words 0 d).now command request (parts words d some) (is ∙ ap command_name same) asks
 
 module _ (rest : List (List ℕ)) where
-  pub query_asked : (request : Request) → Heads rest Query request → (input : Input) × (boxes : List Bounds) × (gap : ℕ) × (output : Output) × (query input boxes gap output ≡ request) × AsksQuery rest input boxes gap output
-  query_asked (query input boxes gap output) head = (input, boxes, gap, output, refl, head.behind)
+  pub query_asked : (request : Request) → Heads rest Query request → (input : Input) × (boxes : List Bounds) × (gap : ℕ) × (condition : Option Comparison) × (output : Output) × (query input boxes gap condition output ≡ request) × AsksQuery rest input boxes gap condition output
+  query_asked (query input boxes gap condition output) head = (input, boxes, gap, condition, output, refl, head.behind)
   query_asked other head = absurd (cc)
 
   pub check_asked : (request : Request) → Heads rest Check request → (input : Input) × (check input ≡ request) × AsksCheck rest input

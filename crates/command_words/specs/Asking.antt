@@ -1,7 +1,9 @@
 -- What the words were read as.
 use Rattle.std.specs.Prelude.{◌≡◌, ◌≤◌, List, [], ◌∷◌, ℕ, length, Option, Some, None}
+use Rattle.std.specs.Option.{option_map}
 use Rattle.std.specs.Borrow.{Bor}
-use Rattle.command_words.specs.Words.{Input, file_named, file_served}
+use Rattle.fgb_where.specs.declared.words.Condition.{Condition}
+use Rattle.command_words.specs.Words.{Comparison, Input, file_named, file_served}
 use Rattle.command_words.specs.Requests.{Request, query, check, pack, convert, make, report, serve}
 use Rattle.command_words.specs.declared.asked.FileWord.{FileWord}
 use Rattle.command_words.specs.declared.asked.FileWord.TheVariants.{Name, Http}
@@ -15,8 +17,12 @@ abbrev pub input_in : FileWord → Input
 input_in (Name name) = file_named name.now
 input_in (Http port path) = file_served port path.now
 
+-- a condition that was read, in words
+abbrev pub comparison_in : Condition → Comparison
+comparison_in c = record { name = c.name.now; op = c.op; value = c.value.now }
+
 abbrev pub request_of : Asked → Request
-request_of (Query q) = query (input_in q.file) q.boxes q.gap q.output
+request_of (Query q) = query (input_in q.file) q.boxes q.gap (option_map comparison_in q.condition) q.output
 request_of (Check file) = check (input_in file)
 request_of (Pack packing) = pack (input_in packing.file) packing.node_size
 request_of (Convert converting) = convert (input_in converting.file) converting.from converting.to

@@ -9,14 +9,14 @@ use Rattle.command_words.specs.declared.command.Command.TheVariants as a
 use Rattle.command_words.specs.declared.command.Target.{Target}
 use Rattle.command_words.specs.declared.command.Target.TheVariants.{Nothing, File, Http}
 use Rattle.command_words.specs.declared.format.Format.{Format}
-use Rattle.command_words.specs.Words.{Input, file_named, file_served, is_known, values, GivesFile, GivesNumber, GivesBoxes, GivesFormat, GivesNoFile, IsGap, IsOutput}
+use Rattle.command_words.specs.Words.{Input, file_named, file_served, is_known, values, GivesFile, GivesNumber, GivesBoxes, GivesFormat, GivesNoFile, Comparison, IsGap, IsWhere, IsOutput}
 
--- what can be asked: for the features of this file that meet one of these boxes, with this gap, in this form; whether this
--- file breaks a rule; for the packing of this file with nodes of so many children; for the conversion of this file from this
+-- what can be asked: for the features of this file that meet one of these boxes, with this gap, and for which this condition
+-- holds, if there is one, in this form; whether this file breaks a rule; for the packing of this file with nodes of so many children; for the conversion of this file from this
 -- form to that one; to make so many features from this one on and query them; for reports on the features of this file that
 -- meet one of these boxes, with this gap; or to serve the file of this name at this port for so many connections
 pub data Request : Type 0 where
-  query : Input → List Bounds → ℕ → Output → Request
+  query : Input → List Bounds → ℕ → Option Comparison → Output → Request
   check : Input → Request
   pack : Input → ℕ → Request
   convert : Input → Format → Format → Request
@@ -26,7 +26,7 @@ pub data Request : Type 0 where
 
 -- the command of a request
 abbrev pub command_of : Request → Command
-command_of (query input boxes gap output) = a.Query
+command_of (query input boxes gap condition output) = a.Query
 command_of (check input) = a.Check
 command_of (pack input node_size) = a.Pack
 command_of (convert input from to) = a.Convert
@@ -48,12 +48,14 @@ command_name a.Serve = codes "serve"
 abbrev pub AreKnown : List (List ℕ) → List (List ℕ) → Type 0
 AreKnown names words = IsTrue (list_all (is_known names) words)
 
--- `FILE --box=BOXES`, with `--gap=G` or without it, and with `--out=lines`, `--out=fgb`, `--out=wkb` or none of them
-pub record AsksQuery (words : List (List ℕ)) (input : Input) (boxes : List Bounds) (gap : ℕ) (output : Output) : Type 0 where
-  pub known : AreKnown (codes "--box=" ∷ codes "--gap=" ∷ codes "--out=" ∷ []) words
+-- `FILE --box=BOXES`, with `--gap=G` and `--where=NAME:OP:VALUE` or without them, and with `--out=lines`, `--out=fgb`,
+-- `--out=wkb` or none of them
+pub record AsksQuery (words : List (List ℕ)) (input : Input) (boxes : List Bounds) (gap : ℕ) (condition : Option Comparison) (output : Output) : Type 0 where
+  pub known : AreKnown (codes "--box=" ∷ codes "--gap=" ∷ codes "--where=" ∷ codes "--out=" ∷ []) words
   pub file : GivesFile words input
   pub sought : GivesBoxes words boxes
   pub bridged : IsGap (values (codes "--gap=") words) gap
+  pub filtered : IsWhere (values (codes "--where=") words) condition
   pub chosen : IsOutput (values (codes "--out=") words) output
 
 -- `FILE`
@@ -97,7 +99,7 @@ pub record AsksServe (words : List (List ℕ)) (name : List ℕ) (port connectio
 
 -- the words behind the command ask for this, in any order
 abbrev pub AsksBehind : List (List ℕ) → Request → Type 0
-AsksBehind words (query input boxes gap output) = AsksQuery words input boxes gap output
+AsksBehind words (query input boxes gap condition output) = AsksQuery words input boxes gap condition output
 AsksBehind words (check input) = AsksCheck words input
 AsksBehind words (pack input node_size) = AsksPack words input node_size
 AsksBehind words (convert input from to) = AsksConvert words input from to
@@ -121,7 +123,7 @@ IsUsageOf IsDone words = (request : Request) → Asks words request → IsDone r
 
 -- the requests of each call
 abbrev pub IsRun : Request → Type 0
-IsRun (query input boxes gap output) = ⊤
+IsRun (query input boxes gap condition output) = ⊤
 IsRun (check input) = ⊤
 IsRun (pack input node_size) = ⊤
 IsRun (convert input from to) = ⊤
@@ -130,7 +132,7 @@ IsRun (report input boxes gap) = ⊥
 IsRun (serve name port connections) = ⊥
 
 abbrev pub IsReport : Request → Type 0
-IsReport (query input boxes gap output) = ⊥
+IsReport (query input boxes gap condition output) = ⊥
 IsReport (check input) = ⊥
 IsReport (pack input node_size) = ⊥
 IsReport (convert input from to) = ⊥
@@ -139,7 +141,7 @@ IsReport (report input boxes gap) = ⊤
 IsReport (serve name port connections) = ⊥
 
 abbrev pub IsServe : Request → Type 0
-IsServe (query input boxes gap output) = ⊥
+IsServe (query input boxes gap condition output) = ⊥
 IsServe (check input) = ⊥
 IsServe (pack input node_size) = ⊥
 IsServe (convert input from to) = ⊥
@@ -149,7 +151,7 @@ IsServe (serve name port connections) = ⊤
 
 -- what a request reads, if it reads a file, and the port that it serves at, or 0
 abbrev pub input_of : Request → Option Input
-input_of (query input boxes gap output) = Some input
+input_of (query input boxes gap condition output) = Some input
 input_of (check input) = Some input
 input_of (pack input node_size) = Some input
 input_of (convert input from to) = Some input
@@ -158,7 +160,7 @@ input_of (report input boxes gap) = Some input
 input_of (serve name port connections) = Some (file_named name)
 
 abbrev pub port_of : Request → ℕ
-port_of (query input boxes gap output) = 0
+port_of (query input boxes gap condition output) = 0
 port_of (check input) = 0
 port_of (pack input node_size) = 0
 port_of (convert input from to) = 0
@@ -168,7 +170,7 @@ port_of (serve name port connections) = port
 
 -- the gap of a request, or 0
 abbrev pub gap_of : Request → ℕ
-gap_of (query input boxes gap output) = gap
+gap_of (query input boxes gap condition output) = gap
 gap_of (check input) = 0
 gap_of (pack input node_size) = 0
 gap_of (convert input from to) = 0

@@ -7,6 +7,8 @@ use Rattle.std.specs.Borrow.{Bor}
 use Rattle.range_client.specs.Requests.{IsPath}
 use Rattle.order_keys.specs.declared.bounds.Bounds.{Bounds}
 use Rattle.box_list.specs.Lists.{SpellsBoxes}
+use Rattle.fgb_where.specs.declared.words.Op.{Op}
+use Rattle.fgb_where.specs.Words.{Spells}
 use Rattle.text_query.specs.declared.output.Output.{Output}
 use Rattle.text_query.specs.declared.output.Output.TheVariants.{Lines, Fgb, Wkb}
 use Rattle.command_words.specs.declared.format.Format.{Format}
@@ -95,6 +97,17 @@ pub record GivesBoxes (words : List (List ℕ)) (boxes : List Bounds) : Type 0 w
 pub data IsGap (given : List (List ℕ)) (gap : ℕ) : Type 0 where
   told : (digits : List ℕ) → given ≡ digits ∷ [] → SpellsWithin digits 0 1048576 gap → IsGap given gap
   untold : given ≡ [] → gap ≡ 0 → IsGap given gap
+
+-- a condition in words: a name, a relation and a value
+pub record Comparison : Type 0 where
+  pub name : List ℕ
+  pub op : Op
+  pub value : List ℕ
+
+-- a condition is given once, or there is none, and none is given
+abbrev pub IsWhere : List (List ℕ) → Option Comparison → Type 0
+IsWhere given None = given ≡ []
+IsWhere given (Some c) = (text : List ℕ) × (given ≡ text ∷ []) × Spells text c.name c.op c.value
 
 -- the name of a form
 abbrev pub format_name : Format → List ℕ

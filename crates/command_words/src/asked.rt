@@ -6,6 +6,7 @@ ghost use Rattle.command_words.specs.Requests.{input_at};
 use crate::command::Target;
 use crate::format::Format;
 use box_list::Boxes;
+use fgb_where::Condition;
 use text_query::Output;
 
 /// What the file word names.
@@ -29,13 +30,14 @@ impl<'a> FileWord<'a> {
     }
 }
 
-/// A query of a file: which features are sought, how long a hole must be not to be asked for, at most 1,048,576 bytes, and
-/// what is written of the features.
+/// A query of a file: which features are sought, how long a hole must be not to be asked for, at most 1,048,576 bytes, the
+/// condition that has to hold for a feature, if there is one, and what is written of the features.
 #[derive(Drop)]
 pub struct Query<'a> {
     pub file: FileWord<'a>,
     pub boxes: Boxes,
     pub gap: u32,
+    pub condition: Option<Condition<'a>>,
     pub output: Output,
 }
 

@@ -1,5 +1,6 @@
 use super::*;
 use fgb_outside::MemorySink;
+use fgb_where::{Condition, Op};
 use flat_layout::{Broken, Rule};
 use std::test::Fail;
 
@@ -48,6 +49,44 @@ fn several_boxes_and_a_gap_are_asked_for(rt: HostRuntime) {
     assert_eq!(rt; plan(&wide), None);
     let twice = ["report", "map.fgb", boxes, "--gap=1", "--gap=1"];
     assert_eq!(rt; plan(&twice), None);
+}
+
+#[test]
+fn a_condition_is_asked_for(rt: HostRuntime) {
+    let anywhere = "--box=-180,-90,180,90";
+    match read_words(&["query", "m.fgb", anywhere, "--where=id:ge:3"]) {
+        Some(Asked::Query(query)) => {
+            let condition = Condition {
+                name: "id",
+                op: Op::Ge,
+                value: "3",
+            };
+            assert_eq!(rt; query.condition, Some(condition));
+        }
+        _ => assert!(rt; false),
+    }
+    match read_words(&["query", "m.fgb", anywhere]) {
+        Some(Asked::Query(query)) => assert_eq!(rt; query.condition, None),
+        _ => assert!(rt; false),
+    }
+    for word in [
+        "--where=id:3",
+        "--where=:ge:3",
+        "--where=id:gt3:",
+        "--where=",
+    ] {
+        assert_eq!(rt; plan(&["query", "m.fgb", anywhere, word]), None);
+    }
+    let twice = [
+        "query",
+        "m.fgb",
+        anywhere,
+        "--where=id:ge:3",
+        "--where=id:ge:3",
+    ];
+    assert_eq!(rt; plan(&twice), None);
+    let reported = ["report", "m.fgb", anywhere, "--where=id:ge:3"];
+    assert_eq!(rt; plan(&reported), None);
 }
 
 #[test]

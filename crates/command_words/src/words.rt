@@ -1,10 +1,11 @@
 // The words of a command.
-ghost use Rattle.std.specs.Prelude.{◌≡◌, ◌≤◌, ℕ, List, IfSome, IfNone, IsSomeAnd};
+ghost use Rattle.std.specs.Prelude.{◌≡◌, ◌≤◌, ℕ, List, Option, IfSome, IfNone, IsSomeAnd};
+ghost use Rattle.std.specs.Option.{option_map};
 ghost use Rattle.order_keys.specs.declared.bounds.Bounds.{Bounds as Box};
 ghost use Rattle.text_query.specs.declared.output.Output.{Output as Choice};
-ghost use Rattle.command_words.specs.Asking.{IsGiven, input_in, request_of};
+ghost use Rattle.command_words.specs.Asking.{IsGiven, comparison_in, input_in, request_of};
 ghost use Rattle.command_words.specs.Requests.{Asks, AsksCheck, AsksConvert, AsksMake, AsksPack, AsksQuery, AsksReport, AsksServe, IsReachable, IsUsage, Request, command_of, gap_of, input_at, input_of, port_of};
-ghost use Rattle.command_words.specs.Words.{GivesBoxes, GivesFormat, Input, IsGap, IsOutput, format_name, texts, values};
+ghost use Rattle.command_words.specs.Words.{Comparison, GivesBoxes, GivesFormat, Input, IsGap, IsOutput, IsWhere, format_name, texts, values};
 ghost use Rattle.command_words.specs.declared.format.Format.{Format as Form};
 
 use crate::asked::{Asked, Converting, FileWord, Making, Packing, Query, Reporting, Serving};
@@ -14,12 +15,13 @@ use crate::format::Format;
 use crate::given::{Given, are_known, has_no_file, value_of, values_of};
 use crate::numbers::{number_of, read_within};
 use box_list::{Boxes, read_boxes};
+use fgb_where::{Condition, read_condition};
 use text_query::Output;
 
 /// What the words, which do not hold the program's name, ask for, or None where no call accepts them. The commands
 /// are
-/// - `query FILE --box=BOXES`, with `--out=lines`, `--out=fgb` or `--out=wkb`, or without for lines, and with `--gap=G`, or
-///   without for 0,
+/// - `query FILE --box=BOXES`, with `--out=lines`, `--out=fgb` or `--out=wkb`, or without for lines, with `--gap=G`, or
+///   without for 0, and with `--where=NAME:OP:VALUE` or without,
 /// - `check FILE`,
 /// - `pack FILE --node=N` with N from 2 to 65535,
 /// - `convert FILE --from=FORM --to=FORM`, where each FORM is `fgb` or `wkb`,
@@ -28,8 +30,9 @@ use text_query::Output;
 /// - `serve FILE --port=P --connections=N` with P from 1 to 65535 and N from 1 to 1000000.
 ///
 /// FILE is a file's name or, but for `serve`, `http://127.0.0.1:PORT/PATH`, where `/PATH` has at most 1,024 bytes, all of
-/// them visible. BOXES are one to eight of `MINX,MINY,MAXX,MAXY` with a `+` between two, and G is from 0 to 1048576. The words
-/// behind the command may come in any order.
+/// them visible. BOXES are one to eight of `MINX,MINY,MAXX,MAXY` with a `+` between two, and G is from 0 to 1048576. NAME is
+/// not empty and holds no colon, and OP is `eq`, `ne`, `lt`, `le`, `gt` or `ge`. The words behind the command may come in
+/// any order.
 pub fn plan<'a>(words: &[&'a str]) -> Option<Plan<'a>>
     ensures planned { IfSome result (λ plan. (request : Request) × Asks (texts words.now) request
         × (plan.command ≡ command_of request) × (input_at plan.target ≡ input_of request) × (plan.port ≡ port_of request)) }
@@ -75,21 +78,24 @@ pub fn read_words<'a>(words: &[&'a str]) -> Option<Asked<'a>>
 /// Reads the words behind `query`.
 fn read_query<'a>(words: &[&'a str]) -> Option<Query<'a>>
     ensures short { IfSome result (λ q. q.gap ≤ 1048576) }
-    ensures some { IfSome result (λ q. AsksQuery (texts words.now) (input_in q.file) q.boxes q.gap q.output) }
-    ensures only { (input : Input) (boxes : List Box) (gap : ℕ) (output : Choice) → AsksQuery (texts words.now) input boxes gap output
-        → IsSomeAnd result (λ q. (input_in q.file ≡ input) × (q.boxes ≡ boxes) × (q.gap ≡ gap) × (q.output ≡ output)) }
+    ensures some { IfSome result (λ q. AsksQuery (texts words.now) (input_in q.file) q.boxes q.gap (option_map comparison_in q.condition) q.output) }
+    ensures only { (input : Input) (boxes : List Box) (gap : ℕ) (condition : Option Comparison) (output : Choice)
+        → AsksQuery (texts words.now) input boxes gap condition output → IsSomeAnd result (λ q. (input_in q.file ≡ input)
+        × (q.boxes ≡ boxes) × (q.gap ≡ gap) × (option_map comparison_in q.condition ≡ condition) × (q.output ≡ output)) }
 {
-    if !are_known(words, &["--box=", "--gap=", "--out="]) {
+    if !are_known(words, &["--box=", "--gap=", "--where=", "--out="]) {
         return None;
     }
     let file = file_of(words)?;
     let boxes = boxes_of(words)?;
     let gap = read_gap(values_of(words, "--gap="))?;
+    let condition = read_where(values_of(words, "--where="))?;
     let output = read_output(values_of(words, "--out="))?;
     Some(Query {
         file,
         boxes,
         gap,
+        condition,
         output,
     })
 }
@@ -206,6 +212,19 @@ fn read_gap(given: Given) -> Option<u32>
     match given {
         Given::Never => Some(0),
         Given::Once(digits) => Some(read_within(digits, 0, 1_048_576)? as u32),
+        Given::Often => None,
+    }
+}
+
+/// The condition that is given, or none where there is none.
+fn read_where<'a>(given: Given<'a>) -> Option<Option<Condition<'a>>>
+    ensures some { IfSome result (λ c. (found : List (List ℕ)) → IsGiven given.entry found → IsWhere found (option_map comparison_in c)) }
+    ensures only { (found : List (List ℕ)) (condition : Option Comparison) → IsGiven given.entry found → IsWhere found condition
+        → IsSomeAnd result (λ c. option_map comparison_in c ≡ condition) }
+{
+    match given {
+        Given::Never => Some(None),
+        Given::Once(text) => Some(Some(read_condition(text)?)),
         Given::Often => None,
     }
 }

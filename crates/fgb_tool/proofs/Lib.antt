@@ -1,5 +1,6 @@
 mod Checking
 mod Packing
 mod Running
+mod Filtering
 mod Converting
 mod Making

@@ -1,5 +1,5 @@
 -- What a run promises, from what its query, its check or its packing has left.
-use Rattle.std.proofs.Common.{◌≡◌, ◌≢◌, ◌⊎◌, inl, inr, ℕ, List, [], Option, Some, Result, Ok, Err, OnOk, IsErrAnd, IsErrOf, MatchResult, sym, ap, subst}
+use Rattle.std.proofs.Common.{◌≡◌, ◌≢◌, ◌⊎◌, inl, inr, ℕ, List, [], Option, Some, None, Result, Ok, Err, OnOk, IsErrAnd, IsErrOf, MatchResult, sym, ap, subst}
 use Rattle.flat_layout.specs.declared.Broken.{Broken}
 use Rattle.order_keys.specs.declared.bounds.Bounds.{Bounds}
 use Rattle.fgb_outside.specs.Source.{Source, IfTold, Rose}
@@ -56,7 +56,7 @@ module _ {A B C D : Type 0} where
 -- ## A query
 
 -- a result, with the errors of a query that writes a text
-abbrev text_of : {T : Type 0} → Result T Stop → Result T TextError
+abbrev pub text_of : {T : Type 0} → Result T Stop → Result T TextError
 text_of (Ok done) = Ok done
 text_of (Err (Refused broken)) = Err (text_error.Refused broken)
 text_of (Err SourceFailed) = Err text_error.SourceFailed
@@ -66,7 +66,7 @@ text_of (Err TooLarge) = Err text_error.TooLarge
 
 module _ {T : Type 0} where
   -- it is the one whose errors were made into those of the work
-  mapped : (r : Result T TextError) (stop : Result T Stop) → MatchResult r (λ done. stop ≡ Ok done) (λ error. IsErrAnd stop (IsTextCause error)) → r ≡ text_of stop
+  pub mapped : (r : Result T TextError) (stop : Result T Stop) → MatchResult r (λ done. stop ≡ Ok done) (λ error. IsErrAnd stop (IsTextCause error)) → r ≡ text_of stop
   mapped (Ok done) stop is = sym (ap text_of is)
   mapped (Err error) (Ok done) is = absurd is
   mapped (Err (text_error.Refused broken)) (Err cause) is = sym (ap (λ c. text_of {T = T} (Err c)) is)
@@ -75,11 +75,11 @@ module _ {T : Type 0} where
   mapped (Err text_error.TooLarge) (Err cause) is = sym (ap (λ c. text_of {T = T} (Err c)) is)
   mapped (Err text_error.Memory) (Err cause) is = sym (ap (λ c. text_of {T = T} (Err c)) is)
 
-  at_ok : (r : Result T Stop) (P : Type 0) → OnOk (text_of r) P → OnOk r P
+  pub at_ok : (r : Result T Stop) (P : Type 0) → OnOk (text_of r) P → OnOk r P
   at_ok (Ok done) P p = p
   at_ok (Err error) P p = tt
 
-  at_refusal : (r : Result T Stop) (P : Broken → Type 0) → IfTextRefused (text_of r) P → IfRefused r P
+  pub at_refusal : (r : Result T Stop) (P : Broken → Type 0) → IfTextRefused (text_of r) P → IfRefused r P
   at_refusal (Ok done) P p = tt
   at_refusal (Err (Refused broken)) P p = p
   at_refusal (Err SourceFailed) P p = tt
@@ -107,7 +107,7 @@ pub record Queried {T : Type 0} (boxes : List Bounds) (gap : ℕ) (output : Outp
   pub sink_failed : IsErrOf result text_error.SinkFailed → Rose o.faults o'.faults
 
 -- too large, no memory, or a source that failed
-wide_status : {T : Type 0} (e e' : Sink) (status : ℕ) (r : Result T Stop) → IsStatus r e e' status
+pub wide_status : {T : Type 0} (e e' : Sink) (status : ℕ) (r : Result T Stop) → IsStatus r e e' status
     → (text_of r ≡ Err text_error.TooLarge) ⊎ (text_of r ≡ Err text_error.Memory) ⊎ (text_of r ≡ Err text_error.SourceFailed) → (status ≡ 6) ⊎ (status ≡ 5) ⊎ (status ≡ 3)
 wide_status e e' status (Err TooLarge) is came = inl is.0
 wide_status e e' status (Err Memory) is came = inr (inl is.0)
@@ -163,11 +163,9 @@ module _ {T : Type 0} (s s' : Source) (o o' e e' : Sink) (status : ℕ) (r : Res
 
   -- the promise at what the words ask for
   pub does_query : (file : Input) (boxes : List Bounds) (gap : ℕ) (output : Output) (request : Request) (asked : Result T TextError) → MatchResult asked (λ done. r ≡ Ok done) (λ error. IsErrAnd r (IsTextCause error))
-      → Queried boxes gap output s s' o o' asked → query file boxes gap output ≡ request → (status ≢ 2) × Does request s s' o o' e e' status
-  does_query file boxes gap output request asked made q same = (
-    not_usage e e' status r is,
-    subst (λ what. Does what s s' o o' e e' status) same (runs boxes gap output (subst (Queried boxes gap output s s' o o') (mapped asked r made) q)),
-  )
+      → Queried boxes gap output s s' o o' asked → query file boxes gap None output ≡ request → Does request s s' o o' e e' status
+  does_query file boxes gap output request asked made q same =
+      subst (λ what. Does what s s' o o' e e' status) same (runs boxes gap output (subst (Queried boxes gap output s s' o o') (mapped asked r made) q))
 
 -- ## A check
 

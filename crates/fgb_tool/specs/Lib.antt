@@ -1,3 +1,4 @@
 pub mod Causes
 pub mod Texts
+pub mod Filtered
 pub mod Runs

@@ -1,5 +1,5 @@
 -- What a query, a check, a packing, a conversion, a making and a run promise.
-use Rattle.std.specs.Prelude.{◌≡◌, ◌≢◌, ◌⊎◌, ℕ, List, [], Option, Some}
+use Rattle.std.specs.Prelude.{◌≡◌, ◌≢◌, ◌⊎◌, ℕ, List, [], Option, None, Some}
 use Rattle.std.specs.List.{AllByRecursion}
 use Rattle.order_keys.specs.declared.bounds.Bounds.{Bounds}
 use Rattle.flat_layout.specs.declared.Broken.{Broken}
@@ -26,6 +26,10 @@ use Rattle.command_words.specs.declared.format.Format.{Format}
 use Rattle.command_words.specs.declared.format.Format.TheVariants as f
 use Rattle.command_words.specs.Texts.{Tells, refusal_text, source_text, sink_text, memory_text, too_large_text}
 use Rattle.command_words.specs.Requests.{Request, query, check, pack, convert, make, report, serve}
+use Rattle.command_words.specs.Words.{Comparison}
+use Rattle.command_words.specs.Asking.{comparison_in}
+use Rattle.fgb_where.specs.declared.words.Condition.{Condition}
+use Rattle.fgb_tool.specs.Filtered.{RunsWhere}
 use Rattle.fgb_tool.specs.Texts.{accepted_text}
 
 -- what a query of these boxes, with this gap, that writes such a text does, by the status that it ends with
@@ -189,9 +193,16 @@ pub record Makes (count start : ℕ) (s s' : Source) (o o' e e' : Sink) (status 
   -- where the sink did not fail, all was written, or there was no memory
   pub unfailed : (Rose o.faults o'.faults → ⊥) → (status ≡ 0) ⊎ (status ≡ 5)
 
+-- what a query under the condition of this comparison does
+pub record Compares (boxes : List Bounds) (gap : ℕ) (comparison : Comparison) (output : Output) (s s' : Source) (o o' e e' : Sink) (status : ℕ) : Type 0 where
+  pub condition : Condition
+  pub same : comparison_in condition ≡ comparison
+  pub runs : RunsWhere boxes gap condition output s s' o o' e e' status
+
 -- what was asked for is done
 abbrev pub Does : Request → Source → Source → Sink → Sink → Sink → Sink → ℕ → Type 0
-Does (query input boxes gap output) s s' o o' e e' status = Runs boxes gap output s s' o o' e e' status
+Does (query input boxes gap None output) s s' o o' e e' status = Runs boxes gap output s s' o o' e e' status
+Does (query input boxes gap (Some comparison) output) s s' o o' e e' status = Compares boxes gap comparison output s s' o o' e e' status
 Does (check input) s s' o o' e e' status = Checks s s' o o' e e' status
 Does (pack input node_size) s s' o o' e e' status = Repacks node_size s s' o o' e e' status
 Does (convert input from to) s s' o o' e e' status = Converts from to s s' o o' e e' status

@@ -7,19 +7,19 @@ ghost use Rattle.fgb_tool.specs.Runs.{Does};
 
 use crate::check::check_file;
 use crate::pack::pack_file;
-use command_words::{Asked, Stop, read_words, refuse_words, status_of};
+use crate::query::answer_query;
+use command_words::{Asked, read_words, refuse_words, status_of};
 use convert_command::convert_file;
 use fgb_outside::{RangeSource, Sink};
 use make_command::make_text;
 use std::alloc::Global;
-use text_query::write_found;
 
 /// Answers the command of the words, which do not hold the program's name, over a file, and gives the status
 /// that the program ends with. What is found is written on `out`; a text that says why there is no answer, on
 /// `err`. The commands are `query FILE --box=BOXES`, with one to eight boxes MINX,MINY,MAXX,MAXY and a `+` between
-/// two of them, with `--gap=G`, and with `--out=lines`, `--out=fgb` or `--out=wkb`, `check FILE`, `pack FILE --node=N`,
-/// `convert FILE --from=FORM --to=FORM`, where each form is `fgb` or `wkb`, and `make --count=N --start=K`, which asks
-/// nothing of the file.
+/// two of them, with `--gap=G`, with `--where=NAME:OP:VALUE`, and with `--out=lines`, `--out=fgb` or `--out=wkb`,
+/// `check FILE`, `pack FILE --node=N`, `convert FILE --from=FORM --to=FORM`, where each form is `fgb` or `wkb`, and
+/// `make --count=N --start=K`, which asks nothing of the file.
 pub fn run<S: RangeSource, W: Sink, E: Sink>(
     alloc: Global,
     words: &[&str],
@@ -40,10 +40,7 @@ pub fn run<S: RangeSource, W: Sink, E: Sink>(
         × Does request (S.seen file.old) (S.seen file.new) (W.shown out.old) (W.shown out.new) (E.shown err.old) (E.shown err.new) result }
 {
     match read_words(words) {
-        Some(Asked::Query(sought)) => {
-            let written = write_found(alloc, &sought.boxes, sought.gap, sought.output, file, out);
-            status_of(written.map_err(Stop::from), err)
-        }
+        Some(Asked::Query(sought)) => answer_query(alloc, &sought, file, out, err),
         Some(Asked::Check(_)) => status_of(check_file(alloc, file, out), err),
         Some(Asked::Pack(packing)) => {
             status_of(pack_file(alloc, packing.node_size, file, out), err)

@@ -95,7 +95,7 @@ done_or_memory refused large (inr (inr (inr d))) = absurd (large d)
 
 -- the boxes of a report that is asked for, and its gap
 abbrev pub boxes_asked : List Bounds → Request → List Bounds
-boxes_asked other (query input boxes gap output) = other
+boxes_asked other (query input boxes gap condition output) = other
 boxes_asked other (check input) = other
 boxes_asked other (pack input node_size) = other
 boxes_asked other (convert input from to) = other
@@ -104,7 +104,7 @@ boxes_asked other (report input boxes gap) = boxes
 boxes_asked other (serve name port connections) = other
 
 abbrev pub gap_asked : ℕ → Request → ℕ
-gap_asked other (query input boxes gap output) = other
+gap_asked other (query input boxes gap condition output) = other
 gap_asked other (check input) = other
 gap_asked other (pack input node_size) = other
 gap_asked other (convert input from to) = other

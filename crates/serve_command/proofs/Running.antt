@@ -11,7 +11,7 @@ use Rattle.serve_command.specs.Runs.{ServesAndTells, ServesRun}
 
 -- words that do not ask to serve
 pub not_asked : {words : List (List ℕ)} → ((name : List ℕ) (port connections : ℕ) → Asks words (serve name port connections) → ⊥) → IsUsageOf IsServe words
-not_asked none (query input boxes gap output) asks is = is
+not_asked none (query input boxes gap condition output) asks is = is
 not_asked none (check input) asks is = is
 not_asked none (pack input node_size) asks is = is
 not_asked none (convert input from to) asks is = is

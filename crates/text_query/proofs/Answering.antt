@@ -41,13 +41,13 @@ use Rattle.text_query.proofs.Writing.{text-append, Start, FailStart, Step, FailS
 -- ## What holds of files that break no rule, and of a refusal of a file without an index
 
 -- what is found is what a filter over all features finds
-abbrev AllIsFound : Type 0
+abbrev pub AllIsFound : Type 0
 AllIsFound =
     (image : List ℕ) (index : Option Shape) (pieces : List (List ℕ)) (boxes : List Bounds) (entries : List Entry)
     → IsFile image index pieces → Answers image boxes entries → entries ≡ found (header_in image) boxes pieces
 
 -- what is found as far as it is known is a front of what a filter finds, in a file that breaks no rule
-abbrev PartIsFound : Type 0
+abbrev pub PartIsFound : Type 0
 PartIsFound =
     (image : List ℕ) (index : Option Shape) (pieces : List (List ℕ)) (boxes : List Bounds) (entries : List Entry)
     → IsFile image index pieces → AnswersPart image boxes entries → (rest : List Entry) × (entries ++ rest ≡ found (header_in image) boxes pieces)
@@ -59,21 +59,21 @@ IsNeverRefused =
     → IsFile image index pieces → Refuses image boxes broken entries → ⊥
 
 -- a refusal of a file without an index names the first unit that breaks a rule
-abbrev IsFirst : Type 0
+abbrev pub IsFirst : Type 0
 IsFirst = (image : List ℕ) (boxes : List Bounds) (broken : Broken) (entries : List Entry) → IsUnindexed image → Refuses image boxes broken entries → BreaksFirst image broken
 
 -- a front of nothing is nothing
-nothing_whole : (o o' : Sink) → AppendsPart o o' [] → Appends o o' []
+pub nothing_whole : (o o' : Sink) → AppendsPart o o' [] → Appends o o' []
 nothing_whole o o' written = written.1 ∙ ap (added o.written) (take-nil written.0)
 
 module _ (image : List ℕ) (boxes : List Bounds) where
   -- all that is found is found as far as it is known
-  part_of_all : (entries : List Entry) → Answers image boxes entries → AnswersPart image boxes entries
+  pub part_of_all : (entries : List Entry) → Answers image boxes entries → AnswersPart image boxes entries
   part_of_all entries (scanned (whole file)) = scanned_part (part (file_passes image file))
   part_of_all entries (searched is) = searched_part is.opened
 
   -- what is found before a refusal is a front of what is found as far as it is known
-  part_of_refused : (broken : Broken) (entries : List Entry) → Refuses image boxes broken entries → (rest : List Entry) × AnswersPart image boxes (entries ++ rest)
+  pub part_of_refused : (broken : Broken) (entries : List Entry) → Refuses image boxes broken entries → (rest : List Entry) × AnswersPart image boxes (entries ++ rest)
   part_of_refused broken entries (in_scan (behind_in_scan passes early breaks)) = ([], subst (AnswersPart image boxes) (sym (append-nil entries)) (scanned_part (part passes)))
   part_of_refused broken entries (in_scan (at_end passes breaks)) = ([], subst (AnswersPart image boxes) (sym (append-nil entries)) (scanned_part (part passes)))
   part_of_refused broken entries (at_node {t = t} opened breaks) = (met image t boxes, searched_part opened)
@@ -105,16 +105,16 @@ module _ (image : List ℕ) (boxes : List Bounds) where
 
 -- ## Results
 
-at_ok : {T E : Type 0} (r : Result T E) (P : T → Type 0) → IfOk r P → IsOk r → (x : T) × P x
+pub at_ok : {T E : Type 0} (r : Result T E) (P : T → Type 0) → IfOk r P → IsOk r → (x : T) × P x
 at_ok (Ok x) P p is = (x, p)
 at_ok (Err e) P p is = absurd (true≢false (sym is))
 
 -- whichever way it went
-either : {T E : Type 0} (r : Result T E) (A B Q : Type 0) → (A → Q) → (B → Q) → OnOk r A → OnErr r B → Q
+pub either : {T E : Type 0} (r : Result T E) (A B Q : Type 0) → (A → Q) → (B → Q) → OnOk r A → OnErr r B → Q
 either (Ok x) A B Q f g a b = f a
 either (Err e) A B Q f g a b = g b
 
-refused_map : {T : Type 0} (r : Result T TextError) (P Q : Broken → Type 0) → ((b : Broken) → P b → Q b) → IfRefused r P → IfRefused r Q
+pub refused_map : {T : Type 0} (r : Result T TextError) (P Q : Broken → Type 0) → ((b : Broken) → P b → Q b) → IfRefused r P → IfRefused r Q
 refused_map (Ok x) P Q f p = tt
 refused_map (Err (Refused b)) P Q f p = f b p
 refused_map (Err SourceFailed) P Q f p = tt
@@ -122,7 +122,7 @@ refused_map (Err SinkFailed) P Q f p = tt
 refused_map (Err TooLarge) P Q f p = tt
 refused_map (Err Memory) P Q f p = tt
 
-failed_apart : {T : Type 0} (r : Result T TextError) → r ≡ Err SinkFailed → r ≡ Err TooLarge → ⊥
+pub failed_apart : {T : Type 0} (r : Result T TextError) → r ≡ Err SinkFailed → r ≡ Err TooLarge → ⊥
 failed_apart r failed large = cc (failed, large)
 
 -- ## A query of a file

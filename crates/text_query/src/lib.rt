@@ -3,7 +3,8 @@
 //!
 //! [`write_found`] hands what the query finds to a visitor, which lays the piece of each feature (`piece` in
 //! `specs/Texts.antt`) on a page and writes the page when it is full (`specs/Pages.antt`). The last page is written
-//! behind the query, where that came to its end or was refused.
+//! behind the query, where that came to its end or was refused. The visitor, [`Writer`], and the end, [`finish`], serve
+//! other queries, too.
 //!
 //! ```text
 //! write_found(alloc, &boxes, 0, Output::Wkb, &mut file, &mut out)?;
@@ -23,4 +24,6 @@ mod writer;
 
 pub use error::TextError;
 pub use output::Output;
-pub use query::write_found;
+pub use page::Page;
+pub use query::{finish, write_found};
+pub use writer::Writer;

@@ -13,8 +13,9 @@ const FULL: usize = 65536;
 
 /// Bytes that are still to be written. The buffer is reused.
 #[derive(Drop)]
-pub(crate) struct Page {
-    pub(crate) bytes: Vec<u8>,
+pub struct Page {
+    /// The bytes, in the order in which they are to be written.
+    pub bytes: Vec<u8>,
 }
 
 impl Page {

@@ -82,8 +82,9 @@ pub fn write_found<S: RangeSource, W: Sink>(
     finish(asked, too_wide, &mut page, out)
 }
 
-/// Writes what is left on the page, whatever came, and says why the work stops; but nothing where a header is too wide.
-fn finish<W: Sink>(
+/// Ends the text of a query whose visitor was a [`Writer`]: writes what is left on the page, whatever came, and says why the
+/// work stops; but TooLarge, and nothing is written, where the header is too wide.
+pub fn finish<W: Sink>(
     asked: Result<QueryDone, QueryError>,
     too_wide: bool,
     page: &mut Page,

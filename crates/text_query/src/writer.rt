@@ -24,26 +24,30 @@ use geometry_view::GeometryView;
 use header_info::HeaderInfo;
 use std::alloc::Global;
 
-/// Writes the text of the features that it is handed, in pieces.
-pub(crate) struct Writer<'o, W: Sink> {
-    pub(crate) out: &'o mut W,
-    pub(crate) output: Output,
+/// Writes the text of the features that it is handed, in pieces. What is left on its page at the end is written by
+/// [`finish`](crate::finish).
+pub struct Writer<'o, W: Sink> {
+    /// The sink that it writes to.
+    pub out: &'o mut W,
+    /// What it writes of each feature.
+    pub output: Output,
     /// What is not written yet.
-    pub(crate) page: Page,
+    pub page: Page,
     /// A line, before it is put on the page. The buffer is reused.
-    pub(crate) line: Vec<u8>,
+    pub line: Vec<u8>,
     /// The header under which geometries are read again, of WKB alone.
-    pub(crate) header: Option<HeaderInfo>,
+    pub header: Option<HeaderInfo>,
     /// Whether the header of a file is larger than the format lets it be.
-    pub(crate) too_wide: bool,
+    pub too_wide: bool,
     /// How often it has stopped.
-    pub(crate) stops: u64,
-    pub(crate) alloc: Global,
+    pub stops: u64,
+    /// Where its buffers are taken from.
+    pub alloc: Global,
 }
 
 impl<'o, W: Sink> Writer<'o, W> {
     /// Nothing is written yet. It takes no memory.
-    pub(crate) fn new(alloc: Global, output: Output, out: &'o mut W) -> Writer<'o, W>
+    pub fn new(alloc: Global, output: Output, out: &'o mut W) -> Writer<'o, W>
         ensures same_reference { result.out.ghost_name ≡ out.entry.ghost_name }
         ensures empty { result.page.bytes.items ≡ [] }
         ensures out { W.shown result.out.now ≡ W.shown out.old }

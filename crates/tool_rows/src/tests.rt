@@ -1,6 +1,7 @@
 use super::*;
 
 mod checks;
+mod conditions;
 mod conversions;
 mod faults;
 mod fronts;

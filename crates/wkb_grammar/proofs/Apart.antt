@@ -2,9 +2,9 @@
 use Rattle.std.proofs.Common.{◌≡◌, inl, inr, ℕ, ◌^◌, ◌<◌, List, ◌∷◌, ◌++◌, length, map, refl, sym, ap, ◌∙◌, subst, append_assoc, arith}
 use Rattle.std.specs.List.{All, concat}
 use Rattle.wkb_writer.specs.declared.dimension.Dimension.{Dimension}
-use Rattle.wkb_grammar.specs.Grammar.{Order, Position, Value, value, Body, point, line, polygon, multi, Values, nothing, also, kind_in, number_bytes, ordinates_of, position_bytes, counted_in, line_bytes_in, head_in, bytes_of, body_bytes, each_bytes, IsSpelled, IsPosition, AreCounted, IsLine, IsValue, IsBody, AreMembers}
+use Rattle.wkb_grammar.specs.Grammar.{Order, Position, Value, value, Body, point, line, polygon, multi, Values, nothing, also, kind_in, number_bytes, ordinates_of, position_bytes, counted_in, line_bytes_in, head_in, srid_bytes, srid_in, bytes_of, body_bytes, each_bytes, IsSpelled, IsPosition, AreCounted, IsLine, IsValue, IsBody, AreMembers}
 use Rattle.wkb_grammar.proofs.Told.{IsTold, told_weaker, number_told, each_told, counted_told}
-use Rattle.wkb_grammar.proofs.Heads.{kind_known, multi_kind, head_told}
+use Rattle.wkb_grammar.proofs.Heads.{kind_known, multi_kind, head_told, srid_told, same_dimension}
 
 -- a point by its ordinates
 position_of : List ℕ → Position → Position
@@ -77,14 +77,19 @@ module _ (o : Order) (d : Dimension) where
 -- no value is a proper prefix of another, and bytes have at most one value: what begins the same bytes is the same, and so is what follows
 mutual
   pub values_are_told_apart : (d e : Dimension) (v u : Value) (rest others : List ℕ) → IsValue d v → IsValue e u → bytes_of v ++ rest ≡ bytes_of u ++ others → (v ≡ u) × (rest ≡ others)
-  values_are_told_apart d e (value o own body) (value p other content) rest others is has same =
-      let head = head_told o p (kind_in body) (kind_in content) own other (body_bytes o body ++ rest) (body_bytes p content ++ others)
-      (kind_known d body is.1) (kind_known e content has.1)
-      (sym (append_assoc (head_in o (kind_in body) own) (body_bytes o body) rest) ∙ same ∙ append_assoc (head_in p (kind_in content) other) (body_bytes p content) others) in
-      let one : e ≡ d = sym has.0 ∙ sym head.dimension ∙ is.0 in
-      let both = body_told o d body content rest others head.kind is.1 (subst (λ x. IsBody x content) one has.1)
-      (subst (λ w. body_bytes o body ++ rest ≡ body_bytes w content ++ others) (sym head.order) head.behind) in
-      ((λ i. value (head.order i) (head.dimension i) (both.0 i)), both.1)
+  values_are_told_apart d e (value s own body) (value t other content) rest others is has same =
+      let behind = srid_in s ++ body_bytes s.order body in
+      let ahead = srid_in t ++ body_bytes t.order content in
+      let head = head_told s t (kind_in body) (kind_in content) (behind ++ rest) (ahead ++ others) (kind_known d body is.1) (kind_known e content has.1)
+      (sym (append_assoc (head_in s (kind_in body)) behind rest) ∙ same ∙ append_assoc (head_in t (kind_in content)) ahead others) in
+      let sooner : srid_bytes s.order s.srid ++ (body_bytes s.order body ++ rest) ≡ srid_bytes s.order t.srid ++ (body_bytes s.order content ++ others) =
+      subst (λ w. srid_bytes s.order s.srid ++ (body_bytes s.order body ++ rest) ≡ srid_bytes w t.srid ++ (body_bytes w content ++ others)) (sym head.order)
+      (sym (append_assoc (srid_in s) (body_bytes s.order body) rest) ∙ head.behind ∙ append_assoc (srid_in t) (body_bytes t.order content) others) in
+      let srid = srid_told s.order s.srid t.srid (body_bytes s.order body ++ rest) (body_bytes s.order content ++ others) head.type.srid is.2.srid has.2.srid sooner in
+      let one : e ≡ d = sym has.0 ∙ sym has.2.says ∙ sym (same_dimension s t (kind_in body) (kind_in content) head.type) ∙ is.2.says ∙ is.0 in
+      let both = body_told s.order d body content rest others head.type.kind is.1 (subst (λ x. IsBody x content) one has.1) srid.1 in
+      let dimensions : own ≡ other = is.0 ∙ sym one ∙ sym has.0 in
+      ((λ i. value (record { order = head.order i; thousands = head.type.thousands i; flags = head.type.flags i; srid = srid.0 i }) (dimensions i) (both.0 i)), both.1)
 
   body_told : (o : Order) (d : Dimension) (body content : Body) (r s : List ℕ) → kind_in body ≡ kind_in content → IsBody d body → IsBody d content
       → body_bytes o body ++ r ≡ body_bytes o content ++ s → (body ≡ content) × (r ≡ s)

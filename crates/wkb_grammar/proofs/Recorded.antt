@@ -7,10 +7,12 @@ use Rattle.std.proofs.lemmas.List.Elements.{All-nil, All-cons, All-append, recur
 use Rattle.fgb_schema.specs.Tables.{is_kind, has_points, has_rings, has_parts}
 use Rattle.fgb_schema.specs.Shapes.{Shape, shape, no_ordinates, type_in, parts_in}
 use Rattle.owned_shape.specs.Records.{depth, IsPoint, IsBeside, IsLevel, IsSound, AreSound, IsRecord}
+use Rattle.wkb_writer.specs.declared.dialect.Dialect.{Dialect}
+use Rattle.wkb_writer.specs.declared.dialect.Dialect.TheVariants.{Iso}
 use Rattle.wkb_writer.specs.declared.dimension.Dimension.{Dimension}
-use Rattle.wkb_grammar.specs.Grammar.{Order, Position, Value, value, point, line, polygon, multi, Values, nothing, also, body_in, bytes_of, each_bytes, is_nowhere, IsPosition, IsLine, is_multi, is_member, IsValue, IsBody, AreMembers}
+use Rattle.wkb_grammar.specs.Grammar.{Spelling, Position, Value, value, point, line, polygon, multi, Values, nothing, also, body_in, bytes_of, each_bytes, is_nowhere, IsPosition, IsLine, is_multi, is_member, IsValue, IsBody, AreMembers}
 use Rattle.wkb_grammar.specs.ShapesShown.{shape_of_points, rings_along, joined, positions_in, positions_of_each, shape_of, shapes_in}
-use Rattle.wkb_grammar.specs.Wkb.{Wkb, most_bytes}
+use Rattle.wkb_grammar.specs.Wkb.{IsValueOf, Wkb, most_bytes}
 use Rattle.wkb_grammar.proofs.Sizes.{length-value, line_long, polygon_long, members_inside, members_long, length-positions_of_each}
 use Rattle.wkb_grammar.proofs.Levels.{level_with_points, lines_chained, length-rings_along}
 
@@ -172,7 +174,7 @@ parts_level kind members known pointless ringless parted several polygons few = 
 }
 
 -- a value with members, whose shapes are sound
-multi_sound : (o : Order) (d : Dimension) (members : Values) (kind : ℕ) → IsTrue (is_multi kind) → AreMembers kind d members → length (concat (each_bytes members)) ≤ most_bytes
+multi_sound : (o : Spelling) (d : Dimension) (members : Values) (kind : ℕ) → IsTrue (is_multi kind) → AreMembers kind d members → length (concat (each_bytes members)) ≤ most_bytes
     → AreSound (shapes_in members) → IsSound (shape_of (value o d (multi kind members)))
 multi_sound o d members kind is all few sound =
     let long = members_long members in
@@ -188,14 +190,14 @@ mutual
   value_sound : (d : Dimension) (v : Value) → IsValue d v → length (bytes_of v) ≤ most_bytes → IsSound (shape_of v)
   value_sound d (value o own (point p)) is small = (point_points own p (is_nowhere p) refl (subst (λ e. IsBody e (point p)) (sym is.0) is.1), tt)
   value_sound d (value o own (line ps)) is small =
-      (line_level own ps (subst (λ e. IsLine e ps) (sym is.0) is.1) (omega (arith, small, length-value o own (line ps), line_long o ps)), tt)
+      (line_level own ps (subst (λ e. IsLine e ps) (sym is.0) is.1) (omega (arith, small, length-value o own (line ps), line_long o.order ps)), tt)
   value_sound d (value o own (polygon rings)) is small =
       let lines = recursion_from_All (IsLine own) rings (subst (λ e. IsBody e (polygon rings)) (sym is.0) is.1).0 in
-      let long = polygon_long o rings in
+      let long = polygon_long o.order rings in
       let whole = length-value o own (polygon rings) in
       (polygon_level own rings lines (omega (arith, small, whole, long)) (omega (arith, small, whole, long)), tt)
   value_sound d (value o own (multi kind members)) is small =
-      let few : length (concat (each_bytes members)) ≤ most_bytes = omega (arith, small, length-value o own (multi kind members), members_inside o kind members) in
+      let few : length (concat (each_bytes members)) ≤ most_bytes = omega (arith, small, length-value o own (multi kind members), members_inside o.order kind members) in
       multi_sound o own members kind is.1.0 (subst (λ e. AreMembers kind e members) (sym is.0) is.1.1) few (members_sound d kind members is.1.1 few)
 
   members_sound : (d : Dimension) (kind : ℕ) (members : Values) → AreMembers kind d members → length (concat (each_bytes members)) ≤ most_bytes → AreSound (shapes_in members)
@@ -208,9 +210,12 @@ mutual
 pub value_is_record : (d : Dimension) (v : Value) → IsValue d v → depth (shape_of v) ≤ 16 → length (bytes_of v) ≤ most_bytes → IsRecord (shape_of v)
 value_is_record d v is shallow small = record { sound = value_sound d v is small; shallow = shallow }
 
--- and so is every shape of which some bytes are a WKB value
-pub wkb_is_record : (g : Shape) (bytes : List ℕ) → Wkb g bytes → IsRecord g
-wkb_is_record g bytes w =
+-- and so is every shape of which some bytes are a value
+pub shape_is_record : (dialect : Dialect) (g : Shape) (bytes : List ℕ) → IsValueOf dialect g bytes → IsRecord g
+shape_is_record dialect g bytes w =
     let shallow : depth (shape_of w.spelled) ≤ 16 = subst (λ s. depth s ≤ 16) w.shown w.shallow in
     let small : length (bytes_of w.spelled) ≤ most_bytes = subst (λ l. length l ≤ most_bytes) w.spells w.small in
     subst IsRecord (sym w.shown) (value_is_record w.dimension w.spelled w.is shallow small)
+
+pub wkb_is_record : (g : Shape) (bytes : List ℕ) → Wkb g bytes → IsRecord g
+wkb_is_record g bytes w = shape_is_record Iso g bytes w

@@ -1,12 +1,12 @@
 -- The values byte by byte are WKB values.
-use Rattle.std.proofs.Common.{inl, inr, ◌^◌, ◌<◌, true, false, [], ◌∷◌, refl, arith}
+use Rattle.std.proofs.Common.{inl, inr, ◌^◌, ◌<◌, true, false, [], ◌∷◌, Some, None, refl, arith}
 use Rattle.std.proofs.lemmas.List.Elements.{All-from_recursion}
 use Rattle.wkb_writer.specs.declared.dimension.Dimension.{Dimension}
 use Rattle.wkb_writer.specs.Dimensions.{flat}
 use Rattle.wkb_writer.specs.Wkb.{nowhere}
-use Rattle.wkb_grammar.specs.Grammar.{big, little, Position, ordinates_of, value, point, multi, nothing, also, IsSpelled, IsPosition, IsValue}
-use Rattle.wkb_grammar.specs.Wkb.{Wkb}
-use Rattle.wkb_grammar.specs.Rows.{one, two, one_two, one_two_twice, one_two_one, no_point, little_point, big_point, mixed_points, point_with_z, nan_point}
+use Rattle.wkb_grammar.specs.Grammar.{Order, big, little, Spelling, Position, ordinates_of, value, point, multi, nothing, also, IsSpelled, IsPosition, IsHead, IsValue}
+use Rattle.wkb_grammar.specs.Wkb.{Ewkb, Wkb}
+use Rattle.wkb_grammar.specs.Rows.{one, two, one_two, one_two_twice, one_two_one, no_point, little_point, big_point, mixed_points, point_with_z, nan_point, point_with_srid, point_with_flag}
 
 abbrev at_one_two : Position
 at_one_two = record { x = one; y = two; beside = [] }
@@ -46,11 +46,19 @@ nowhere_is = record {
   enough = refl;
 }
 
+-- a head of WKB of a dimension
+abbrev plain : Order → Dimension → Spelling
+plain order d = record { order = order; thousands = d; flags = flat; srid = None }
+
+says : (order : Order) (d : Dimension) → IsHead (plain order d) d
+says order d = record { says = refl; srid = tt }
+
 pub little_row : Wkb one_two little_point
 little_row = record {
-  spelled = value little flat (point at_one_two);
+  spelled = value (plain little flat) flat (point at_one_two);
   dimension = flat;
-  is = (refl, inl one_two_is);
+  is = (refl, inl one_two_is, says _ _);
+  speaks = ((refl, refl), tt);
   spells = refl;
   shown = refl;
   shallow = omega arith;
@@ -59,9 +67,10 @@ little_row = record {
 
 pub big_row : Wkb one_two big_point
 big_row = record {
-  spelled = value big flat (point at_one_two);
+  spelled = value (plain big flat) flat (point at_one_two);
   dimension = flat;
-  is = (refl, inl one_two_is);
+  is = (refl, inl one_two_is, says _ _);
+  speaks = ((refl, refl), tt);
   spells = refl;
   shown = refl;
   shallow = omega arith;
@@ -69,14 +78,15 @@ big_row = record {
 }
 
 -- the members of the MultiPoint
-mixed_is : IsValue flat (value big flat (multi 4 (also (value little flat (point at_one_two)) (also (value big flat (point at_one_two)) nothing))))
-mixed_is = (refl, (refl, (refl, (refl, inl one_two_is), (refl, (refl, inl one_two_is), tt)), omega arith))
+mixed_is : IsValue flat (value (plain big flat) flat (multi 4 (also (value (plain little flat) flat (point at_one_two)) (also (value (plain big flat) flat (point at_one_two)) nothing))))
+mixed_is = (refl, (refl, (refl, (refl, inl one_two_is, says _ _), (refl, (refl, inl one_two_is, says _ _), tt)), omega arith), says _ _)
 
 pub mixed_row : Wkb one_two_twice mixed_points
 mixed_row = record {
-  spelled = value big flat (multi 4 (also (value little flat (point at_one_two)) (also (value big flat (point at_one_two)) nothing)));
+  spelled = value (plain big flat) flat (multi 4 (also (value (plain little flat) flat (point at_one_two)) (also (value (plain big flat) flat (point at_one_two)) nothing)));
   dimension = flat;
   is = mixed_is;
+  speaks = ((refl, refl), (((refl, refl), tt), (((refl, refl), tt), tt)));
   spells = refl;
   shown = refl;
   shallow = omega arith;
@@ -85,9 +95,10 @@ mixed_row = record {
 
 pub z_row : Wkb one_two_one point_with_z
 z_row = record {
-  spelled = value little with_z (point at_one_two_one);
+  spelled = value (plain little with_z) with_z (point at_one_two_one);
   dimension = with_z;
-  is = (refl, inl one_two_one_is);
+  is = (refl, inl one_two_one_is, says _ _);
+  speaks = ((refl, refl), tt);
   spells = refl;
   shown = refl;
   shallow = omega arith;
@@ -96,9 +107,34 @@ z_row = record {
 
 pub empty_row : Wkb no_point nan_point
 empty_row = record {
-  spelled = value little flat (point at_nowhere);
+  spelled = value (plain little flat) flat (point at_nowhere);
   dimension = flat;
-  is = (refl, inr (nowhere_is, refl));
+  is = (refl, inr (nowhere_is, refl), says _ _);
+  speaks = ((refl, refl), tt);
+  spells = refl;
+  shown = refl;
+  shallow = omega arith;
+  small = omega arith;
+}
+
+pub srid_row : Ewkb one_two point_with_srid
+srid_row = record {
+  spelled = value (record { order = little; thousands = flat; flags = flat; srid = Some 4326 }) flat (point at_one_two);
+  dimension = flat;
+  is = (refl, inl one_two_is, record { says = refl; srid = omega arith });
+  speaks = (tt, tt);
+  spells = refl;
+  shown = refl;
+  shallow = omega arith;
+  small = omega arith;
+}
+
+pub flag_row : Ewkb one_two_one point_with_flag
+flag_row = record {
+  spelled = value (record { order = little; thousands = flat; flags = with_z; srid = None }) with_z (point at_one_two_one);
+  dimension = with_z;
+  is = (refl, inl one_two_one_is, record { says = refl; srid = tt });
+  speaks = (tt, tt);
   spells = refl;
   shown = refl;
   shallow = omega arith;

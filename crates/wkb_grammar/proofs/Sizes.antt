@@ -3,18 +3,20 @@ use Rattle.std.proofs.Common.{◌≡◌, ℕ, suc, ◌+◌, ◌*◌, ◌≤◌, 
 use Rattle.std.specs.List.{concat, flat_map}
 use Rattle.byteorder.specs.Numbers.{length-bytes_high_first, length-bytes_low_first}
 use Rattle.wkb_writer.specs.declared.dimension.Dimension.{Dimension}
-use Rattle.wkb_writer.specs.Wkb.{type_number}
-use Rattle.wkb_grammar.specs.Grammar.{Order, big, little, Position, Value, value, Body, point, line, polygon, multi, Values, nothing, also, kind_in, number_bytes, position_bytes, line_bytes_in, head_in, bytes_of, body_bytes, each_bytes}
+use Rattle.wkb_grammar.specs.Grammar.{Order, big, little, Spelling, Position, Value, value, Body, point, line, polygon, multi, Values, nothing, also, kind_in, number_bytes, position_bytes, line_bytes_in, type_in, head_in, srid_in, bytes_of, body_bytes, each_bytes}
 use Rattle.wkb_grammar.specs.ShapesShown.{joined, positions_in, positions_of_each}
 
 pub length-number : (o : Order) (width x : ℕ) → length (number_bytes o width x) ≡ width
 length-number big width x = length-bytes_high_first width x
 length-number little width x = length-bytes_low_first 0 width x
 
--- five bytes in front of a body
-pub length-value : (o : Order) (d : Dimension) (body : Body) → length (bytes_of (value o d body)) ≡ 5 + length (body_bytes o body)
-length-value o d body =
-    omega (arith, length-append (head_in o (kind_in body) d) (body_bytes o body), length-number o 4 (type_number (kind_in body) d))
+-- five bytes, and those of the number of a reference system, in front of a body
+pub length-head : (s : Spelling) (kind : ℕ) → length (head_in s kind) ≡ 5
+length-head s kind = omega (arith, length-number s.order 4 (type_in s kind))
+
+pub length-value : (s : Spelling) (d : Dimension) (body : Body) → length (bytes_of (value s d body)) ≡ 5 + length (srid_in s) + length (body_bytes s.order body)
+length-value s d body =
+    omega (arith, length-append (head_in s (kind_in body)) (srid_in s ++ body_bytes s.order body), length-append (srid_in s) (body_bytes s.order body), length-head s (kind_in body))
 
 -- sixteen for each point
 pub position_long : (o : Order) (p : Position) → 16 ≤ length (position_bytes o p)
@@ -49,10 +51,10 @@ members_inside o kind members = counted_long o (each_bytes members)
 
 -- a value with the points that it gives to one it is a member of
 pub value_long : (v : Value) → 5 + 16 * length (positions_in v) ≤ length (bytes_of v)
-value_long (value o d (point p)) = omega (arith, length-value o d (point p), position_long o p)
-value_long (value o d (line ps)) = omega (arith, length-value o d (line ps), line_long o ps)
-value_long (value o d (polygon rings)) = omega (arith, length-value o d (polygon rings))
-value_long (value o d (multi kind members)) = omega (arith, length-value o d (multi kind members))
+value_long (value s d (point p)) = omega (arith, length-value s d (point p), position_long s.order p)
+value_long (value s d (line ps)) = omega (arith, length-value s d (line ps), line_long s.order ps)
+value_long (value s d (polygon rings)) = omega (arith, length-value s d (polygon rings))
+value_long (value s d (multi kind members)) = omega (arith, length-value s d (multi kind members))
 
 pub members_long : (members : Values) → length (each_bytes members) + 16 * length (joined (positions_of_each members)) ≤ length (concat (each_bytes members))
 members_long nothing = omega arith

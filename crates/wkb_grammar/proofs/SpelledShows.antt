@@ -5,21 +5,22 @@ use Rattle.std.proofs.lemmas.List.Elements.{All-head}
 use Rattle.fgb_schema.specs.Tables.{is_kind, has_points, has_rings, has_parts}
 use Rattle.fgb_schema.specs.Shapes.{shape, none, no_ordinates}
 use Rattle.owned_shape.specs.Records.{AreChained}
+use Rattle.wkb_writer.specs.declared.dialect.Dialect.{Dialect}
 use Rattle.wkb_writer.specs.declared.dimension.Dimension.{Dimension}
-use Rattle.wkb_grammar.specs.Grammar.{little, Position, value, Values, is_nowhere, IsPosition}
-use Rattle.wkb_grammar.specs.ShapesShown.{lists_of, shape_of_points, rings_along, joined, positions_of_each, shape_of, shapes_in}
+use Rattle.wkb_grammar.specs.Grammar.{Position, Values, is_nowhere, IsPosition}
+use Rattle.wkb_grammar.specs.ShapesShown.{lists_of, shape_of_points, rings_along, joined, positions_of_each, shape_of_body, shapes_in}
 use Rattle.wkb_grammar.proofs.Rings.{ring_in, joined_whole, rings_back}
 use Rattle.wkb_grammar.proofs.SpelledIs.{somewhere, empty_is_nowhere}
 use Rattle.wkb_grammar.proofs.Spelling.{by_kind, values_of, point_value, line_value, only_point, body_by}
 
 -- the points of Points, and the lines of LineStrings
-points_of_each : (d : Dimension) (ps : List Position) → joined (positions_of_each (values_of (map (point_value d) ps))) ≡ ps
-points_of_each d [] = refl
-points_of_each d (p ∷ ps) = ap (λ rest. p ∷ rest) (points_of_each d ps)
+points_of_each : (dialect : Dialect) (d : Dimension) (ps : List Position) → joined (positions_of_each (values_of (map (point_value dialect d) ps))) ≡ ps
+points_of_each dialect d [] = refl
+points_of_each dialect d (p ∷ ps) = ap (λ rest. p ∷ rest) (points_of_each dialect d ps)
 
-lines_of_each : (d : Dimension) (lines : List (List Position)) → positions_of_each (values_of (map (line_value d) lines)) ≡ lines
-lines_of_each d [] = refl
-lines_of_each d (ps ∷ lines) = ap (λ rest. ps ∷ rest) (lines_of_each d lines)
+lines_of_each : (dialect : Dialect) (d : Dimension) (lines : List (List Position)) → positions_of_each (values_of (map (line_value dialect d) lines)) ≡ lines
+lines_of_each dialect d [] = refl
+lines_of_each dialect d (ps ∷ lines) = ap (λ rest. ps ∷ rest) (lines_of_each dialect d lines)
 
 -- the points of a Point
 single_points : (d : Dimension) (ps : List Position) → length ps ≤ 1 → All (IsPosition d) ps → (if is_nowhere (only_point d ps) then [] else only_point d ps ∷ []) ≡ ps
@@ -49,17 +50,17 @@ pub record Shows (d : Dimension) (ps : List Position) (rings : List (ℕ × ℕ)
   pub no_rings : has_rings kind ≡ false → rings ≡ []
   pub no_parts : has_parts kind ≡ false → shapes_in members ≡ none
 
-pub shape_by : (d : Dimension) (ps : List Position) (rings : List (ℕ × ℕ)) (members : Values) (kind : ℕ) → IsTrue (is_kind kind) → All (IsPosition d) ps → Shows d ps rings members kind
-    → shape_of (value little d (body_by d kind ps rings members)) ≡ shape kind (map (λ p. (p.x, p.y)) ps) rings (lists_of d ps) (shapes_in members)
-shape_by d ps rings members kind is positioned shows =
-    let Whole : ℕ → Type 0 = λ k. shape_of (value little d (body_by d k ps rings members)) ≡ shape k (map (λ p. (p.x, p.y)) ps) rings (lists_of d ps) (shapes_in members) in
+pub shape_by : (dialect : Dialect) (d : Dimension) (ps : List Position) (rings : List (ℕ × ℕ)) (members : Values) (kind : ℕ) → IsTrue (is_kind kind) → All (IsPosition d) ps → Shows d ps rings members kind
+    → shape_of_body d (body_by dialect d kind ps rings members) ≡ shape kind (map (λ p. (p.x, p.y)) ps) rings (lists_of d ps) (shapes_in members)
+shape_by dialect d ps rings members kind is positioned shows =
+    let Whole : ℕ → Type 0 = λ k. shape_of_body d (body_by dialect d k ps rings members) ≡ shape k (map (λ p. (p.x, p.y)) ps) rings (lists_of d ps) (shapes_in members) in
     by_kind (λ k. Shows d ps rings members k → Whole k)
     (λ s. ap₂ (λ qs rs. shape_of_points 1 d qs rs) (single_points d ps (s.single refl) positioned) (sym (s.no_rings refl)) ∙ ap (shape 1 (map (λ p. (p.x, p.y)) ps) rings (lists_of d ps)) (sym (s.no_parts refl)))
     (λ s. ap (λ rs. shape_of_points 2 d ps rs) (sym (s.no_rings refl)) ∙ ap (shape 2 (map (λ p. (p.x, p.y)) ps) rings (lists_of d ps)) (sym (s.no_parts refl)))
     (λ s. ap₂ (λ qs rs. shape_of_points 3 d qs rs) (joined_whole ps rings (s.chained refl)) (rings_back ps 0 (length ps) rings (s.chained refl) (omega arith))
     ∙ ap (shape 3 (map (λ p. (p.x, p.y)) ps) rings (lists_of d ps)) (sym (s.no_parts refl)))
-    (λ s. ap₂ (λ qs rs. shape_of_points 4 d qs rs) (points_of_each d ps) (sym (s.no_rings refl)) ∙ ap (shape 4 (map (λ p. (p.x, p.y)) ps) rings (lists_of d ps)) (sym (s.no_parts refl)))
-    (λ s. ap (λ lines. shape_of_points 5 d (joined lines) (rings_along 0 lines)) (lines_of_each d (map (ring_in ps) rings))
+    (λ s. ap₂ (λ qs rs. shape_of_points 4 d qs rs) (points_of_each dialect d ps) (sym (s.no_rings refl)) ∙ ap (shape 4 (map (λ p. (p.x, p.y)) ps) rings (lists_of d ps)) (sym (s.no_parts refl)))
+    (λ s. ap (λ lines. shape_of_points 5 d (joined lines) (rings_along 0 lines)) (lines_of_each dialect d (map (ring_in ps) rings))
     ∙ ap₂ (λ qs rs. shape_of_points 5 d qs rs) (joined_whole ps rings (s.chained refl)) (rings_back ps 0 (length ps) rings (s.chained refl) (omega arith))
     ∙ ap (shape 5 (map (λ p. (p.x, p.y)) ps) rings (lists_of d ps)) (sym (s.no_parts refl)))
     (λ s. pointless d ps rings members 6 (s.no_points refl) (s.no_rings refl))

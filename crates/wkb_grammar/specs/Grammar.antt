@@ -1,15 +1,27 @@
--- The values of WKB in either byte order, and the bytes of each (OGC 06-103r4, section 8.2).
-use Rattle.std.specs.Prelude.{◌≡◌, ◌⊎◌, ℕ, ◌+◌, ◌==◌, ◌^◌, ◌<◌, ◌&&◌, ◌||◌, not, nat_le, Bool, IsTrue, List, [], ◌∷◌, ◌++◌, map, length, if◌then◌else◌, ⊤}
+-- The values of WKB (OGC 06-103r4, section 8.2) and of EWKB (PostGIS, "Extended WKB") in either byte order, and the bytes of
+-- each. A value of WKB is one of EWKB of whose types none has a flag.
+use Rattle.std.specs.Prelude.{◌≡◌, ◌⊎◌, ℕ, ◌+◌, ◌==◌, ◌^◌, ◌<◌, ◌&&◌, ◌||◌, not, nat_le, Bool, true, false, IsTrue, List, [], ◌∷◌, ◌++◌, map, length, Option, Some, None, if◌then◌else◌, ⊤}
 use Rattle.std.specs.List.{All, list_all, concat, flat_map}
 use Rattle.byteorder.specs.Endian.{big_bytes, little_bytes}
 use Rattle.order_keys.specs.Keys.{is_finite}
+use Rattle.wkb_writer.specs.declared.dialect.Dialect.{Dialect}
+use Rattle.wkb_writer.specs.declared.dialect.Dialect.TheVariants.{Iso, Extended}
 use Rattle.wkb_writer.specs.declared.dimension.Dimension.{Dimension}
-use Rattle.wkb_writer.specs.Wkb.{nowhere, type_number}
+use Rattle.wkb_writer.specs.Dimensions.{flat}
+use Rattle.wkb_writer.specs.Wkb.{nowhere, type_number, z_flag, m_flag, srid_flag}
 
 -- the byte order of a value: the highest byte first, or the lowest
 pub data Order : Type 0 where
   big : Order
   little : Order
+
+-- how the head of a value is spelled: its byte order, what the thousands and what the flags of its type say of z and m, and
+-- the number of a reference system (SRID), if there is one
+pub record Spelling : Type 0 where
+  pub order : Order
+  pub thousands : Dimension
+  pub flags : Dimension
+  pub srid : Option ℕ
 
 -- the ordinates of a point: x, y, and beside them z and m, where the dimension has them
 pub record Position : Type 0 where
@@ -17,10 +29,10 @@ pub record Position : Type 0 where
   pub y : ℕ
   pub beside : List ℕ
 
--- a value: its byte order, its dimension, and a point, a line, rings, or members of a type from 4 on
+-- a value: how its head is spelled, its dimension, and a point, a line, rings, or members of a type from 4 on
 mutual
   pub data Value : Type 0 where
-    value : Order → Dimension → Body → Value
+    value : Spelling → Dimension → Body → Value
 
   pub data Body : Type 0 where
     point : Position → Body
@@ -41,7 +53,7 @@ kind_in (multi kind members) = kind
 
 -- the body of a value
 abbrev pub body_in : Value → Body
-body_in (value order d body) = body
+body_in (value s d body) = body
 
 abbrev pub order_byte : Order → ℕ
 order_byte big = 0
@@ -65,14 +77,31 @@ counted_in order things = number_bytes order 4 (length things) ++ concat things
 abbrev pub line_bytes_in : Order → List Position → List ℕ
 line_bytes_in order ps = counted_in order (map (position_bytes order) ps)
 
--- the byte order and the type in front of a body
-abbrev pub head_in : Order → ℕ → Dimension → List ℕ
-head_in order kind d = order_byte order ∷ number_bytes order 4 (type_number kind d)
+abbrev pub has_srid : Option ℕ → Bool
+has_srid None = false
+has_srid (Some n) = true
 
--- the bytes of a value; each member has a byte order of its own
+-- the number of a type: that of its kind with thousands, and flags
+abbrev pub type_in : Spelling → ℕ → ℕ
+type_in s kind =
+    type_number kind s.thousands + (if has_srid s.srid then srid_flag else 0) + (if s.flags.m then m_flag else 0) + (if s.flags.z then z_flag else 0)
+
+-- the byte order and the type in front of a value
+abbrev pub head_in : Spelling → ℕ → List ℕ
+head_in s kind = order_byte s.order ∷ number_bytes s.order 4 (type_in s kind)
+
+-- the number of a reference system, behind the type
+abbrev pub srid_bytes : Order → Option ℕ → List ℕ
+srid_bytes order None = []
+srid_bytes order (Some n) = number_bytes order 4 n
+
+abbrev pub srid_in : Spelling → List ℕ
+srid_in s = srid_bytes s.order s.srid
+
+-- the bytes of a value; each member has a head of its own
 abbrev mutual
   pub bytes_of : Value → List ℕ
-  bytes_of (value order d body) = head_in order (kind_in body) d ++ body_bytes order body
+  bytes_of (value s d body) = head_in s (kind_in body) ++ (srid_in s ++ body_bytes s.order body)
 
   pub body_bytes : Order → Body → List ℕ
   body_bytes order (point p) = position_bytes order p
@@ -121,10 +150,24 @@ is_member kind (line ps) = (kind == 7) || (kind == 5)
 is_member kind (polygon rings) = (kind == 7) || (kind == 6)
 is_member kind (multi inner members) = kind == 7
 
+-- the dimension that flags or thousands say
+abbrev pub dimension_by : Spelling → Dimension
+dimension_by s = record { z = s.flags.z || s.thousands.z; m = s.flags.m || s.thousands.m }
+
+-- a number of four bytes, if there is one
+abbrev pub IsSrid : Option ℕ → Type 0
+IsSrid None = ⊤
+IsSrid (Some n) = n < 2 ^ 32
+
+-- the head of a value of this dimension
+pub record IsHead (s : Spelling) (d : Dimension) : Type 0 where
+  pub says : dimension_by s ≡ d
+  pub srid : IsSrid s.srid
+
 -- a value of this dimension
 abbrev mutual
   pub IsValue : Dimension → Value → Type 0
-  IsValue d (value order own body) = (own ≡ d) × IsBody d body
+  IsValue d (value s own body) = (own ≡ d) × IsBody d body × IsHead s own
 
   pub IsBody : Dimension → Body → Type 0
   IsBody d (point p) = IsPosition d p ⊎ (IsSpelled d p × IsTrue (is_nowhere p))
@@ -135,3 +178,23 @@ abbrev mutual
   pub AreMembers : ℕ → Dimension → Values → Type 0
   AreMembers kind d nothing = ⊤
   AreMembers kind d (also first rest) = IsTrue (is_member kind (body_in first)) × IsValue d first × AreMembers kind d rest
+
+-- the heads of a dialect: in WKB there are no flags
+abbrev pub IsHeadIn : Dialect → Spelling → Type 0
+IsHeadIn Iso s = (s.flags ≡ flat) × (s.srid ≡ None)
+IsHeadIn Extended s = ⊤
+
+-- a value of a dialect, by its heads at every depth
+abbrev mutual
+  pub IsIn : Dialect → Value → Type 0
+  IsIn dialect (value s d body) = IsHeadIn dialect s × IsBodyIn dialect body
+
+  pub IsBodyIn : Dialect → Body → Type 0
+  IsBodyIn dialect (point p) = ⊤
+  IsBodyIn dialect (line ps) = ⊤
+  IsBodyIn dialect (polygon rings) = ⊤
+  IsBodyIn dialect (multi kind members) = AreIn dialect members
+
+  pub AreIn : Dialect → Values → Type 0
+  AreIn dialect nothing = ⊤
+  AreIn dialect (also first rest) = IsIn dialect first × AreIn dialect rest

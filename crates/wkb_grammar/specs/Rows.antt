@@ -58,3 +58,10 @@ nan_point = (0x01 ∷ 0x01 ∷ 0x00 ∷ 0x00 ∷ 0x00 ∷ []) ++ little_nan ++ l
   where
     little_nan : List ℕ
     little_nan = 0x00 ∷ 0x00 ∷ 0x00 ∷ 0x00 ∷ 0x00 ∷ 0x00 ∷ 0xf8 ∷ 0x7f ∷ []
+
+-- the Point in the reference system 4326, and the Point with z, whose type says so by a flag
+abbrev pub point_with_srid : List ℕ
+point_with_srid = (0x01 ∷ 0x01 ∷ 0x00 ∷ 0x00 ∷ 0x20 ∷ 0xe6 ∷ 0x10 ∷ 0x00 ∷ 0x00 ∷ []) ++ little_one ++ little_two
+
+abbrev pub point_with_flag : List ℕ
+point_with_flag = (0x01 ∷ 0x01 ∷ 0x00 ∷ 0x00 ∷ 0x80 ∷ []) ++ little_one ++ little_two ++ little_one

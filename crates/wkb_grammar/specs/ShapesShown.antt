@@ -3,7 +3,7 @@ use Rattle.std.specs.Prelude.{ℕ, ◌+◌, ◌==◌, List, [], ◌∷◌, map, 
 use Rattle.std.specs.List.{flat_map}
 use Rattle.fgb_schema.specs.Shapes.{Shape, shape, Shapes, none, more, Ordinates, no_ordinates}
 use Rattle.wkb_writer.specs.declared.dimension.Dimension.{Dimension}
-use Rattle.wkb_grammar.specs.Grammar.{Position, Value, value, point, line, polygon, multi, Values, nothing, also, is_nowhere}
+use Rattle.wkb_grammar.specs.Grammar.{Position, Value, value, Body, point, line, polygon, multi, Values, nothing, also, is_nowhere}
 
 -- the z and the m of points, where the dimension has them; the z stands in front
 abbrev pub lists_of : Dimension → List Position → Ordinates
@@ -29,9 +29,9 @@ joined lines = flat_map (λ ps. ps) lines
 
 -- the points of a value that is a Point or a line
 abbrev pub positions_in : Value → List Position
-positions_in (value order d (point p)) = p ∷ []
-positions_in (value order d (line ps)) = ps
-positions_in (value order d body) = []
+positions_in (value s d (point p)) = p ∷ []
+positions_in (value s d (line ps)) = ps
+positions_in (value s d body) = []
 
 abbrev pub positions_of_each : Values → List (List Position)
 positions_of_each nothing = []
@@ -40,10 +40,13 @@ positions_of_each (also first rest) = positions_in first ∷ positions_of_each r
 -- the shape of a value: the members of a MultiPoint are its points, those of a MultiLineString its rings, others its parts
 abbrev mutual
   pub shape_of : Value → Shape
-  shape_of (value order d (point p)) = shape_of_points 1 d (if is_nowhere p then [] else p ∷ []) []
-  shape_of (value order d (line ps)) = shape_of_points 2 d ps []
-  shape_of (value order d (polygon rings)) = shape_of_points 3 d (joined rings) (rings_along 0 rings)
-  shape_of (value order d (multi kind members)) =
+  shape_of (value s d body) = shape_of_body d body
+
+  pub shape_of_body : Dimension → Body → Shape
+  shape_of_body d (point p) = shape_of_points 1 d (if is_nowhere p then [] else p ∷ []) []
+  shape_of_body d (line ps) = shape_of_points 2 d ps []
+  shape_of_body d (polygon rings) = shape_of_points 3 d (joined rings) (rings_along 0 rings)
+  shape_of_body d (multi kind members) =
       if kind == 4 then shape_of_points 4 d (joined (positions_of_each members)) []
       else if kind == 5 then shape_of_points 5 d (joined (positions_of_each members)) (rings_along 0 (positions_of_each members))
       else shape kind [] [] no_ordinates (shapes_in members)

@@ -1,5 +1,5 @@
--- What is broken in bytes that are no WKB value: the items are taken from the front, and the first that breaks a rule is
--- named (OGC 06-103r4, section 8.2). Places count from the first of the bytes.
+-- What is broken in bytes that are no value of WKB (OGC 06-103r4, section 8.2) or of EWKB (PostGIS, "Extended WKB"): the items
+-- are taken from the front, and the first that breaks a rule is named. Places count from the first of the bytes.
 use Rattle.std.specs.Prelude.{◌≡◌, ◌≢◌, ℕ, ◌+◌, ◌*◌, ◌^◌, ◌==◌, ◌&&◌, ◌||◌, ◌<◌, ◌≤◌, Bool, true, false, IsTrue, List, [], ◌∷◌, ◌++◌, take, length, if◌then◌else◌, nat_lt, ⊤}
 use Rattle.std.specs.List.{All, flat_map}
 use Rattle.flat_layout.specs.declared.Rule.{Rule}
@@ -7,9 +7,10 @@ use Rattle.flat_layout.specs.declared.Rule.TheVariants.{WkbSize, WkbEnd, WkbOrde
 use Rattle.order_keys.specs.Keys.{is_finite}
 use Rattle.fgb_schema.specs.Tables.{is_kind}
 use Rattle.owned_shape.specs.Records.{depth}
+use Rattle.wkb_writer.specs.declared.dialect.Dialect.{Dialect}
+use Rattle.wkb_writer.specs.declared.dialect.Dialect.TheVariants.{Iso, Extended}
 use Rattle.wkb_writer.specs.declared.dimension.Dimension.{Dimension}
-use Rattle.wkb_writer.specs.Wkb.{type_number}
-use Rattle.wkb_grammar.specs.Grammar.{Order, Position, Value, body_in, number_bytes, order_byte, head_in, position_bytes, line_bytes_in, bytes_of, beside_of, is_nowhere, IsSpelled, IsPosition, IsLine, IsValue, is_multi, is_member}
+use Rattle.wkb_grammar.specs.Grammar.{Order, Spelling, Position, Value, body_in, number_bytes, order_byte, has_srid, type_in, head_in, srid_in, IsHead, IsHeadIn, IsIn, position_bytes, line_bytes_in, bytes_of, beside_of, is_nowhere, IsSpelled, IsPosition, IsLine, IsValue, is_multi, is_member}
 use Rattle.wkb_grammar.specs.ShapesShown.{shape_of}
 use Rattle.wkb_grammar.specs.Wkb.{most_bytes}
 
@@ -66,50 +67,72 @@ abbrev pub level_below : ℕ → ℕ → ℕ
 level_below level kind = if nat_lt kind 6 then level else level + 1
 
 -- a whole member at this level, with no level too deep
-pub record IsMember (level kind : ℕ) (d : Dimension) (v : Value) : Type 0 where
+pub record IsMember (dialect : Dialect) (level kind : ℕ) (d : Dimension) (v : Value) : Type 0 where
   pub is : IsValue d v
+  pub speaks : IsIn dialect v
   pub fits : IsTrue (is_member kind (body_in v))
   pub shallow : level + depth (shape_of v) ≤ deepest_level + 1
 
--- what stands in front of the body of a value at this level: its byte order; its depth; its type; its kind and dimension as a member
-pub data BreaksHead (level : ℕ) (standing : Standing) (b : List ℕ) : ℕ → Rule → Type 0 where
-  no_order : b ≡ [] → BreaksHead level standing b 0 WkbEnd
-  other_order : (first : ℕ) (rest : List ℕ) → b ≡ first ∷ rest → 1 < first → BreaksHead level standing b 0 WkbOrder
-  too_deep : (order : Order) (rest : List ℕ) → b ≡ order_byte order ∷ rest → deepest_level < level → BreaksHead level standing b 0 WkbDepth
-  no_type : (order : Order) (rest : List ℕ) → b ≡ order_byte order ∷ rest → level ≤ deepest_level → length rest < 4 → BreaksHead level standing b 1 WkbEnd
+-- the head of a value of this kind and dimension in a dialect
+pub record IsHeadOf (dialect : Dialect) (s : Spelling) (kind : ℕ) (d : Dimension) : Type 0 where
+  pub known : IsTrue (is_kind kind)
+  pub is : IsHead s d
+  pub speaks : IsHeadIn dialect s
+
+-- the number of no type of a dialect
+abbrev pub IsNoType : Dialect → ℕ → Type 0
+IsNoType dialect number = (s : Spelling) (kind : ℕ) → IsTrue (is_kind kind) → IsHeadIn dialect s → number ≢ type_in s kind
+
+-- what stands in front of the body of a value at this level: its byte order; its depth; its type; its kind and dimension as a member;
+-- the number of a reference system, where its type has the flag of one
+pub data BreaksHead (dialect : Dialect) (level : ℕ) (standing : Standing) (b : List ℕ) : ℕ → Rule → Type 0 where
+  no_order : b ≡ [] → BreaksHead dialect level standing b 0 WkbEnd
+  other_order : (first : ℕ) (rest : List ℕ) → b ≡ first ∷ rest → 1 < first → BreaksHead dialect level standing b 0 WkbOrder
+  too_deep : (order : Order) (rest : List ℕ) → b ≡ order_byte order ∷ rest → deepest_level < level → BreaksHead dialect level standing b 0 WkbDepth
+  no_type : (order : Order) (rest : List ℕ) → b ≡ order_byte order ∷ rest → level ≤ deepest_level → length rest < 4 → BreaksHead dialect level standing b 1 WkbEnd
   other_type : (order : Order) (number : ℕ) (rest : List ℕ) → b ≡ order_byte order ∷ number_bytes order 4 number ++ rest → level ≤ deepest_level → number < 2 ^ 32
-      → ((kind : ℕ) (d : Dimension) → IsTrue (is_kind kind) → number ≢ type_number kind d) → BreaksHead level standing b 1 WkbType
-  misfit : {r : Rule} (order : Order) (kind : ℕ) (d : Dimension) (rest : List ℕ) → b ≡ head_in order kind d ++ rest → level ≤ deepest_level → IsTrue (is_kind kind)
-      → Misfits standing kind d r → BreaksHead level standing b 0 r
+      → IsNoType dialect number → BreaksHead dialect level standing b 1 WkbType
+  misfit : {r : Rule} (s : Spelling) (kind : ℕ) (d : Dimension) (rest : List ℕ) → b ≡ head_in s kind ++ rest → level ≤ deepest_level → IsHeadOf dialect s kind d
+      → Misfits standing kind d r → BreaksHead dialect level standing b 0 r
+  no_srid : (s : Spelling) (kind : ℕ) (d : Dimension) (rest : List ℕ) → b ≡ head_in s kind ++ rest → level ≤ deepest_level → IsHeadOf dialect s kind d
+      → Suits standing kind d → has_srid s.srid ≡ true → length rest < 4 → BreaksHead dialect level standing b 5 WkbEnd
 
 -- a value at this level: its head; an empty Point in a MultiPoint; its body
 mutual
-  pub data BreaksValue : ℕ → Standing → List ℕ → ℕ → Rule → Type 0 where
-    in_head : {level : ℕ} {standing : Standing} {b : List ℕ} {q : ℕ} {r : Rule} → BreaksHead level standing b q r → BreaksValue level standing b q r
-    empty_member : {level : ℕ} {b : List ℕ} (order : Order) (d : Dimension) (p : Position) (rest : List ℕ)
-        → b ≡ head_in order 1 d ++ position_bytes order p ++ rest → level ≤ deepest_level → IsSpelled d p → IsTrue (is_nowhere p) → BreaksValue level (member_of 4 d) b 0 WkbMember
-    in_body : {level : ℕ} {standing : Standing} {b : List ℕ} {q : ℕ} {r : Rule} (order : Order) (kind : ℕ) (d : Dimension) (rest : List ℕ)
-        → b ≡ head_in order kind d ++ rest → level ≤ deepest_level → IsTrue (is_kind kind) → Suits standing kind d
-        → BreaksBody level order kind d rest q r → BreaksValue level standing b (5 + q) r
+  pub data BreaksValue (dialect : Dialect) : ℕ → Standing → List ℕ → ℕ → Rule → Type 0 where
+    in_head : {level : ℕ} {standing : Standing} {b : List ℕ} {q : ℕ} {r : Rule} → BreaksHead dialect level standing b q r → BreaksValue dialect level standing b q r
+    empty_member : {level : ℕ} {b : List ℕ} (s : Spelling) (d : Dimension) (p : Position) (rest : List ℕ)
+        → b ≡ head_in s 1 ++ (srid_in s ++ (position_bytes s.order p ++ rest)) → level ≤ deepest_level → IsHeadOf dialect s 1 d → IsSpelled d p → IsTrue (is_nowhere p)
+        → BreaksValue dialect level (member_of 4 d) b 0 WkbMember
+    in_body : {level : ℕ} {standing : Standing} {b : List ℕ} {q : ℕ} {r : Rule} (s : Spelling) (kind : ℕ) (d : Dimension) (rest : List ℕ)
+        → b ≡ head_in s kind ++ (srid_in s ++ rest) → level ≤ deepest_level → IsHeadOf dialect s kind d → Suits standing kind d
+        → BreaksBody dialect level s.order kind d rest q r → BreaksValue dialect level standing b (5 + length (srid_in s) + q) r
 
-  pub data BreaksBody : ℕ → Order → ℕ → Dimension → List ℕ → ℕ → Rule → Type 0 where
-    in_point : {level : ℕ} {order : Order} {d : Dimension} {b : List ℕ} {q : ℕ} {r : Rule} → BreaksPosition order d true b q r → BreaksBody level order 1 d b q r
-    in_line : {level : ℕ} {order : Order} {d : Dimension} {b : List ℕ} {q : ℕ} {r : Rule} → BreaksLine order d b q r → BreaksBody level order 2 d b q r
-    in_polygon : {level : ℕ} {order : Order} {d : Dimension} {b : List ℕ} {q : ℕ} {r : Rule} → BreaksPolygon order d b q r → BreaksBody level order 3 d b q r
-    no_members : {level : ℕ} {order : Order} {kind : ℕ} {d : Dimension} {b : List ℕ} → IsTrue (is_multi kind) → length b < 4 → BreaksBody level order kind d b 0 WkbEnd
+  pub data BreaksBody (dialect : Dialect) : ℕ → Order → ℕ → Dimension → List ℕ → ℕ → Rule → Type 0 where
+    in_point : {level : ℕ} {order : Order} {d : Dimension} {b : List ℕ} {q : ℕ} {r : Rule} → BreaksPosition order d true b q r → BreaksBody dialect level order 1 d b q r
+    in_line : {level : ℕ} {order : Order} {d : Dimension} {b : List ℕ} {q : ℕ} {r : Rule} → BreaksLine order d b q r → BreaksBody dialect level order 2 d b q r
+    in_polygon : {level : ℕ} {order : Order} {d : Dimension} {b : List ℕ} {q : ℕ} {r : Rule} → BreaksPolygon order d b q r → BreaksBody dialect level order 3 d b q r
+    no_members : {level : ℕ} {order : Order} {kind : ℕ} {d : Dimension} {b : List ℕ} → IsTrue (is_multi kind) → length b < 4 → BreaksBody dialect level order kind d b 0 WkbEnd
     in_member : {level : ℕ} {order : Order} {kind : ℕ} {d : Dimension} {b : List ℕ} {q : ℕ} {r : Rule} → IsTrue (is_multi kind)
         → (count : ℕ) (front : List Value) (rest : List ℕ) → count < 2 ^ 32 → b ≡ number_bytes order 4 count ++ flat_map bytes_of front ++ rest
-        → length front < count → All (IsMember (level_below level kind) kind d) front → BreaksValue (level_below level kind) (member_of kind d) rest q r
-        → BreaksBody level order kind d b (4 + length (flat_map bytes_of front) + q) r
+        → length front < count → All (IsMember dialect (level_below level kind) kind d) front → BreaksValue dialect (level_below level kind) (member_of kind d) rest q r
+        → BreaksBody dialect level order kind d b (4 + length (flat_map bytes_of front) + q) r
 
 -- no front of the bytes is a value: in the most bytes that a value can have an item breaks a rule, or these end inside one and more follow
 pub data BreaksFront (b : List ℕ) : ℕ → Rule → Type 0 where
-  too_long : {q : ℕ} → most_bytes < length b → BreaksValue 1 alone (take most_bytes b) q WkbEnd → BreaksFront b 0 WkbSize
-  in_value : {q : ℕ} {r : Rule} → (r ≡ WkbEnd → length b ≤ most_bytes) → BreaksValue 1 alone (take most_bytes b) q r → BreaksFront b q r
+  too_long : {q : ℕ} → most_bytes < length b → BreaksValue Iso 1 alone (take most_bytes b) q WkbEnd → BreaksFront b 0 WkbSize
+  in_value : {q : ℕ} {r : Rule} → (r ≡ WkbEnd → length b ≤ most_bytes) → BreaksValue Iso 1 alone (take most_bytes b) q r → BreaksFront b q r
 
--- the bytes are not one value: they are too many, one of the items breaks a rule, or more follows
-pub data BreaksWkb (b : List ℕ) : ℕ → Rule → Type 0 where
-  too_long : most_bytes < length b → BreaksWkb b 0 WkbSize
-  in_value : {q : ℕ} {r : Rule} → length b ≤ most_bytes → BreaksValue 1 alone b q r → BreaksWkb b q r
-  goes_on : (v : Value) (d : Dimension) (rest : List ℕ) → length b ≤ most_bytes → b ≡ bytes_of v ++ rest → IsValue d v → depth (shape_of v) ≤ deepest_level → rest ≢ []
-      → BreaksWkb b (length (bytes_of v)) WkbRest
+-- the bytes are not one value of a dialect: they are too many, one of the items breaks a rule, or more follows
+pub data BreaksWhole (dialect : Dialect) (b : List ℕ) : ℕ → Rule → Type 0 where
+  too_long : most_bytes < length b → BreaksWhole dialect b 0 WkbSize
+  in_value : {q : ℕ} {r : Rule} → length b ≤ most_bytes → BreaksValue dialect 1 alone b q r → BreaksWhole dialect b q r
+  goes_on : (v : Value) (d : Dimension) (rest : List ℕ) → length b ≤ most_bytes → b ≡ bytes_of v ++ rest → IsValue d v → IsIn dialect v → depth (shape_of v) ≤ deepest_level → rest ≢ []
+      → BreaksWhole dialect b (length (bytes_of v)) WkbRest
+
+-- the bytes are not one value of WKB, or of EWKB
+abbrev pub BreaksWkb : List ℕ → ℕ → Rule → Type 0
+BreaksWkb b = BreaksWhole Iso b
+
+abbrev pub BreaksEwkb : List ℕ → ℕ → Rule → Type 0
+BreaksEwkb b = BreaksWhole Extended b

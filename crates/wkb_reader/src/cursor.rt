@@ -3,6 +3,7 @@ ghost use Rattle.std.specs.Prelude.{◌≡◌, ◌==◌, ◌+◌, ◌≤◌, ℕ
 ghost use Rattle.wkb_grammar.specs.Grammar.{number_bytes, order_byte};
 ghost use Rattle.wkb_reader.specs.Broken.{BreaksHead, Standing};
 ghost use Rattle.wkb_reader.specs.Refusals.{IsCut, Refuses};
+ghost use Rattle.wkb_writer.specs.declared.dialect.Dialect.{Dialect};
 ghost use Rattle.wkb_writer.specs.declared.error.WkbError.TheVariants.{Refused};
 
 use byteorder::{BigEndian, ByteOrder, LittleEndian};
@@ -41,7 +42,7 @@ impl Cursor<'_> {
     /// Takes the byte order of a value. Refuses WkbEnd, WkbOrder.
     pub(crate) fn order(&mut self) -> Result<Order, WkbError>
         ensures ok { IfOk result (λ order. Passes self.old self.new (order_byte (order_of order) ∷ [])) }
-        ensures err { (level : ℕ) (standing : Standing) → IfErr result (Refuses self.old.at (BreaksHead level standing self.old.rest.now)) }
+        ensures err { (dialect : Dialect) (level : ℕ) (standing : Standing) → IfErr result (Refuses self.old.at (BreaksHead dialect level standing self.old.rest.now)) }
     {
         if self.is_at_end() {
             return Err(refused(self.at, Rule::WkbEnd));

@@ -1,9 +1,9 @@
 // The public calls.
 ghost use Rattle.std.specs.Prelude.{◌≡◌, ◌≤◌, ℕ, take, length, IfErr, IfOk};
 ghost use Rattle.fgb_schema.specs.Shapes.{Shape as Tree};
-ghost use Rattle.wkb_grammar.specs.Wkb.{Wkb};
+ghost use Rattle.wkb_grammar.specs.Wkb.{Ewkb, IsValueOf, Wkb};
 ghost use Rattle.wkb_writer.specs.declared.error.WkbError.TheVariants.{Memory};
-ghost use Rattle.wkb_reader.specs.Broken.{BreaksFront, BreaksWkb};
+ghost use Rattle.wkb_reader.specs.Broken.{BreaksEwkb, BreaksFront, BreaksWhole, BreaksWkb};
 ghost use Rattle.wkb_reader.specs.Refusals.{Names, is_end, stopped};
 
 use crate::cursor::{Cursor, refused};
@@ -12,7 +12,7 @@ use crate::value::take_value;
 use flat_views::Rule;
 use owned_shape::Shape;
 use std::alloc::Global;
-use wkb_writer::WkbError;
+use wkb_writer::{Dialect, WkbError};
 
 /// The most bytes of a value.
 const MOST: usize = 268_435_456;
@@ -29,11 +29,36 @@ pub fn read_wkb(alloc: Global, bytes: &[u8]) -> Result<Shape, WkbError>
     // A value is read, unless memory runs out.
     ensures only_memory { (g : Tree) → Wkb g bytes.now → IfErr result (λ e. e ≡ Memory) }
 {
+    read(alloc, Dialect::Iso, bytes)
+}
+
+/// Reads an EWKB value, which is all of the bytes, as a shape. Numbers of reference systems are read and not kept. A WKB
+/// value is one too. (PostGIS, "Extended WKB")
+///
+/// Where the bytes are no value it names what is broken: WkbSize, WkbEnd, WkbOrder, WkbType, WkbMember, WkbDimension,
+/// WkbDepth, NotFinite or WkbRest.
+pub fn read_ewkb(alloc: Global, bytes: &[u8]) -> Result<Shape, WkbError>
+    // What is read is a value of this shape.
+    ensures value { IfOk result (λ shape. Ewkb shape bytes.now) }
+    // What is no value is refused by the first broken rule.
+    ensures refused { IfErr result (Names (BreaksEwkb bytes.now)) }
+    // A value is read, unless memory runs out.
+    ensures only_memory { (g : Tree) → Ewkb g bytes.now → IfErr result (λ e. e ≡ Memory) }
+{
+    read(alloc, Dialect::Extended, bytes)
+}
+
+/// Reads a value of a dialect, which is all of the bytes, as a shape.
+fn read(alloc: Global, dialect: Dialect, bytes: &[u8]) -> Result<Shape, WkbError>
+    ensures value { IfOk result (λ shape. IsValueOf dialect shape bytes.now) }
+    ensures refused { IfErr result (Names (BreaksWhole dialect bytes.now)) }
+    ensures only_memory { (g : Tree) → IsValueOf dialect g bytes.now → IfErr result (λ e. e ≡ Memory) }
+{
     if bytes.len() > MOST {
         return Err(refused(0, Rule::WkbSize));
     }
     let mut cursor = Cursor { rest: bytes, at: 0 };
-    let shape = take_value(alloc, &mut cursor, 1, Standing::Alone)?;
+    let shape = take_value(alloc, &mut cursor, dialect, 1, Standing::Alone)?;
     if !cursor.is_at_end() {
         return Err(refused(cursor.at, Rule::WkbRest));
     }
@@ -55,7 +80,7 @@ pub fn read_wkb_front(alloc: Global, bytes: &[u8]) -> Result<(Shape, usize), Wkb
 {
     let front = &bytes[..bytes.len().min(MOST)];
     let mut cursor = Cursor { rest: front, at: 0 };
-    match take_value(alloc, &mut cursor, 1, Standing::Alone) {
+    match take_value(alloc, &mut cursor, Dialect::Iso, 1, Standing::Alone) {
         Ok(shape) => Ok((shape, cursor.at)),
         Err(stop) => Err(stop_within(stop, bytes.len())),
     }

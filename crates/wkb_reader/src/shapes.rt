@@ -7,6 +7,7 @@ ghost use Rattle.geometry_view.specs.declared.kind.Ordinate.TheVariants.{Z, M};
 ghost use Rattle.owned_shape.specs.Puts.{with_ordinates};
 ghost use Rattle.owned_shape.specs.Records.{IsLevel};
 ghost use Rattle.wkb_grammar.specs.Grammar.{IsLine, line_bytes_in};
+ghost use Rattle.wkb_writer.specs.declared.dialect.Dialect.{Dialect as Dialects};
 ghost use Rattle.wkb_reader.specs.Broken.{BreaksLine, BreaksPolygon, BreaksPosition};
 ghost use Rattle.wkb_reader.specs.Cursors.{Takes};
 ghost use Rattle.wkb_reader.specs.Gathered.{AddsRing, gathered};
@@ -27,7 +28,7 @@ pub(crate) fn take_point(
     order: Order,
     dimension: Dimension,
 ) -> Result<Shape, WkbError>
-    ensures ok { IfOk result (TakesBody cursor.old cursor.new (order_of order) 1 dimension) }
+    ensures ok { (dialect : Dialects) → IfOk result (TakesBody dialect cursor.old cursor.new (order_of order) 1 dimension) }
     ensures err { IfErr result (Refuses cursor.old.at (BreaksPosition (order_of order) dimension true cursor.old.rest.now)) }
 {
     let start = cursor.at;
@@ -49,7 +50,7 @@ pub(crate) fn take_line(
     order: Order,
     dimension: Dimension,
 ) -> Result<Shape, WkbError>
-    ensures ok { IfOk result (TakesBody cursor.old cursor.new (order_of order) 2 dimension) }
+    ensures ok { (dialect : Dialects) → IfOk result (TakesBody dialect cursor.old cursor.new (order_of order) 2 dimension) }
     ensures err { IfErr result (Refuses cursor.old.at (BreaksLine (order_of order) dimension cursor.old.rest.now)) }
 {
     let mut points = Points::new(alloc);
@@ -65,7 +66,7 @@ pub(crate) fn take_polygon(
     order: Order,
     dimension: Dimension,
 ) -> Result<Shape, WkbError>
-    ensures ok { IfOk result (TakesBody cursor.old cursor.new (order_of order) 3 dimension) }
+    ensures ok { (dialect : Dialects) → IfOk result (TakesBody dialect cursor.old cursor.new (order_of order) 3 dimension) }
     ensures err { IfErr result (Refuses cursor.old.at (BreaksPolygon (order_of order) dimension cursor.old.rest.now)) }
 {
     let mut shape = Shape::new(alloc, Kind::Polygon);

@@ -33,6 +33,20 @@ const HIGH: [u8; 29] = [
     0xf0, 0x3f,
 ];
 
+/// The Point (1, 2) in the reference system 4326, as EWKB.
+const REFERENCED: [u8; 25] = [
+    1, 1, 0, 0, 0x20, 0xe6, 0x10, 0, 0, 0, 0, 0, 0, 0, 0, 0xf0, 0x3f, 0, 0, 0, 0, 0, 0, 0, 0x40,
+];
+
+/// A Point with z, as EWKB.
+const FLAGGED: [u8; 29] = [
+    1, 1, 0, 0, 0x80, 0, 0, 0, 0, 0, 0, 0xf0, 0x3f, 0, 0, 0, 0, 0, 0, 0, 0x40, 0, 0, 0, 0, 0, 0,
+    0xf0, 0x3f,
+];
+
+/// What stands in front of the one part of a GeometryCollection in the reference system 4326.
+const REFERENCED_COLLECTION: [u8; 13] = [1, 7, 0, 0, 0x20, 0xe6, 0x10, 0, 0, 1, 0, 0, 0];
+
 /// What stands in front of the one part of a GeometryCollection.
 const COLLECTION: [u8; 9] = [1, 7, 0, 0, 0, 1, 0, 0, 0];
 
@@ -44,6 +58,20 @@ fn read(alloc: Global, bytes: &[u8]) -> Result<Shape, Fail> {
 /// What the bytes are refused with, or a failure.
 fn refusal(alloc: Global, bytes: &[u8]) -> Result<(u64, Rule), Fail> {
     match read_wkb(alloc, bytes) {
+        Err(WkbError::Refused(Broken { place, rule })) => Ok((place, rule)),
+        Err(WkbError::Memory) => Err(Fail::new("no memory")),
+        Ok(_) => Err(Fail::new("read")),
+    }
+}
+
+/// The shape that the bytes are read as by EWKB, or a failure.
+fn read_extended(alloc: Global, bytes: &[u8]) -> Result<Shape, Fail> {
+    read_ewkb(alloc, bytes).map_err(|_| Fail::new("not read"))
+}
+
+/// What the bytes are refused with by EWKB, or a failure.
+fn extended_refusal(alloc: Global, bytes: &[u8]) -> Result<(u64, Rule), Fail> {
+    match read_ewkb(alloc, bytes) {
         Err(WkbError::Refused(Broken { place, rule })) => Ok((place, rule)),
         Err(WkbError::Memory) => Err(Fail::new("no memory")),
         Ok(_) => Err(Fail::new("read")),
@@ -121,5 +149,39 @@ fn refusals(rt: HostRuntime) -> Result<(), Fail> {
     };
     assert_eq!(rt; length, 21);
     assert_eq!(rt; point(&shape, 0), Some((N1, N2)));
+    Ok(())
+}
+
+#[test]
+fn extended(rt: HostRuntime) -> Result<(), Fail> {
+    let plain = read_extended(rt.alloc(), &LITTLE)?;
+    assert_eq!(rt; point(&plain, 0), Some((N1, N2)));
+    let referenced = read_extended(rt.alloc(), &REFERENCED)?;
+    assert_eq!(rt; referenced.kind(), Kind::Point);
+    assert_eq!(rt; point(&referenced, 0), Some((N1, N2)));
+    assert_eq!(rt; referenced.ordinates(Ordinate::Z).len(), 0);
+    let flagged = read_extended(rt.alloc(), &FLAGGED)?;
+    assert_eq!(rt; point(&flagged, 0), Some((N1, N2)));
+    assert_eq!(rt; flagged.ordinates(Ordinate::Z), [N1.0].as_slice());
+    let bytes = joined(rt.alloc(), &REFERENCED_COLLECTION, &REFERENCED)?;
+    let collection = read_extended(rt.alloc(), &bytes)?;
+    assert_eq!(rt; collection.kind(), Kind::GeometryCollection);
+    assert_eq!(rt; collection.parts(), 1);
+    Ok(())
+}
+
+#[test]
+fn extended_refusals(rt: HostRuntime) -> Result<(), Fail> {
+    let Some(cut) = REFERENCED.get(..8) else {
+        return Err(Fail::new("not cut"));
+    };
+    assert_eq!(rt; extended_refusal(rt.alloc(), cut)?, (5, Rule::WkbEnd));
+    let mixed = joined(rt.alloc(), &REFERENCED_COLLECTION, &FLAGGED)?;
+    assert_eq!(rt;
+        extended_refusal(rt.alloc(), &mixed)?,
+        (13, Rule::WkbDimension)
+    );
+    assert_eq!(rt; refusal(rt.alloc(), &REFERENCED)?, (1, Rule::WkbType));
+    assert_eq!(rt; refusal(rt.alloc(), &FLAGGED)?, (1, Rule::WkbType));
     Ok(())
 }

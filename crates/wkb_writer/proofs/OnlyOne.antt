@@ -4,7 +4,7 @@ use Rattle.std.specs.List.{Any}
 use Rattle.fgb_schema.specs.Shapes.{Shape, shape, Shapes, none, more, points, points_of_all}
 use Rattle.wkb_writer.specs.Commons.{HasPoints}
 use Rattle.wkb_writer.specs.Dimensions.{Differ, Dimension, Fits, HasNoWkb, IsDimension, IsTimed, tree, trees}
-use Rattle.wkb_writer.specs.Wkb.{IsWkb, value}
+use Rattle.wkb_writer.specs.Wkb.{IsEwkb, IsWkb, value, value_with_srid}
 use Rattle.wkb_writer.proofs.Joins.{all_any, any_left, any_right, dimension_at}
 
 -- no points, or a part with points
@@ -34,6 +34,9 @@ one_dimension g d e this other = elim (some_points g) [
 
 pub only_one : (g : Shape) (a b : List ℕ) → IsWkb g a → IsWkb g b → a ≡ b
 only_one g a b this other = this.spelled ∙ ap (λ d. value d g) (one_dimension g this.dimension other.dimension this.is other.is) ∙ sym other.spelled
+
+pub only_extended : (srid : ℕ) (g : Shape) (a b : List ℕ) → IsEwkb srid g a → IsEwkb srid g b → a ≡ b
+only_extended srid g a b this other = this.spelled ∙ ap (λ d. value_with_srid srid d g) (one_dimension g this.dimension other.dimension this.is other.is) ∙ sym other.spelled
 
 pub none_of_both : (g : Shape) (bytes : List ℕ) → IsWkb g bytes → HasNoWkb g → ⊥
 none_of_both g bytes is refused = elim refused [

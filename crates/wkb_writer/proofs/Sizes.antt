@@ -13,6 +13,7 @@ use Rattle.fgb_schema.specs.Shapes.{Shape, type_in, points_in, rings_in, ordinat
 use Rattle.owned_shape.specs.Records.{AreChained}
 use Rattle.owned_shape.proofs.Chains.{within_last}
 use Rattle.owned_shape.proofs.ReadShapes.{ArePartsRead, IsRead}
+use Rattle.wkb_writer.specs.declared.dialect.Dialect.TheVariants.{Iso}
 use Rattle.wkb_writer.specs.Dimensions.{Dimension, Fits, coordinate_dimension, dimension_of}
 use Rattle.wkb_writer.specs.Levels.{rows_in}
 use Rattle.wkb_writer.specs.Wkb.{counted, head, line_bytes, nowhere_bytes, point_body, ring_of, row_bytes, rows, value}
@@ -119,7 +120,7 @@ module _ (d : Dimension) (s : Shape) where
 
   -- so many bytes of its own stand behind its head
   abbrev pub IsBodySize : ℕ → Type 0
-  IsBodySize n = n + length (concat parts_bytes) ≡ length (body_as d s (type_in s))
+  IsBodySize n = n + length (concat parts_bytes) ≡ length (body_as Iso d s (type_in s))
 
   module _ (fits : Fits d s) (read : IsRead s) (parts : ArePartsRead s) where
     wide_by : (points : List (ℕ × ℕ)) → points ≡ points_in s → All (Long row_bytes w) (rows points (ordinates_in s).z (ordinates_in s).m)
@@ -144,8 +145,8 @@ module _ (d : Dimension) (s : Shape) where
 
     -- by its type, of so many points and rings
     module _ (k : ℕ) (kind : k ≡ type_in s) (row points rings : ℕ) (of_row : row ≡ w) (of_points : points ≡ length (points_in s)) (of_rings : rings ≡ length (rings_in s)) where
-      as_type : (n : ℕ) → k ≡ n → length (body_as d s n) ≡ length (body_as d s (type_in s))
-      as_type n is = ap (λ n. length (body_as d s n)) (sym is ∙ kind)
+      as_type : (n : ℕ) → k ≡ n → length (body_as Iso d s n) ≡ length (body_as Iso d s (type_in s))
+      as_type n is = ap (λ n. length (body_as Iso d s n)) (sym is ∙ kind)
 
       no_parts : (n : ℕ) → k ≡ n → has_parts n ≡ false → length (concat parts_bytes) ≡ 0
       no_parts n is lacks = lone (ap has_parts (sym kind ∙ is) ∙ lacks)
@@ -157,33 +158,33 @@ module _ (d : Dimension) (s : Shape) where
       of_rows = ap (λ n. n * w) (length-rows_in s ∙ sym of_points) ∙ ap (λ n. points * n) (sym of_row)
 
       pub point_size : k ≡ 1 → IsBodySize row
-      point_size is = omega (arith, of_row, no_parts 1 is refl, point_long (rows_in s) wide, ap length (as_point d s), as_type 1 is)
+      point_size is = omega (arith, of_row, no_parts 1 is refl, point_long (rows_in s) wide, ap length (as_point Iso d s), as_type 1 is)
 
       pub line_size : k ≡ 2 → (n : ℕ) → n ≡ 4 + points * row → IsBodySize n
-      line_size is n counted = omega (arith, counted, of_rows, no_parts 2 is refl, counted_long row_bytes w (rows_in s) wide, ap length (as_line d s), as_type 2 is)
+      line_size is n counted = omega (arith, counted, of_rows, no_parts 2 is refl, counted_long row_bytes w (rows_in s) wide, ap length (as_line Iso d s), as_type 2 is)
 
       pub polygon_size : k ≡ 3 → (n : ℕ) → n ≡ 4 + rings * 4 → IsBodySize (n + points * row)
       polygon_size is n counted =
-          omega (arith, counted, of_rings, of_rows, no_parts 3 is refl, cover_long [] (rows_in s) w wide (rings_in s) (chained 3 is refl), ap length (as_lines d s), as_type 3 is)
+          omega (arith, counted, of_rings, of_rows, no_parts 3 is refl, cover_long [] (rows_in s) w wide (rings_in s) (chained 3 is refl), ap length (as_lines Iso d s), as_type 3 is)
 
       pub points_size : k ≡ 4 → (n : ℕ) → n ≡ 4 + points * (5 + row) → IsBodySize n
       points_size is n counted =
-          let front = head 1 d in
+          let front = head Iso 1 d in
           let bytes : List ℕ → List ℕ = λ row. front ++ row_bytes row in
           let each : All (Long bytes (5 + w)) (rows_in s) = All-weaker (Long row_bytes w) (Long bytes (5 + w)) (λ row long. length-append front (row_bytes row) ∙ omega (arith, long)) (rows_in s) wide in
           let all : length (rows_in s) * (5 + w) ≡ points * (5 + row) = ap (λ n. n * (5 + w)) (length-rows_in s ∙ sym of_points) ∙ ap (λ n. points * (5 + n)) (sym of_row) in
-          omega (arith, counted, all, no_parts 4 is refl, counted_long bytes (5 + w) (rows_in s) each, ap length (as_points d s), as_type 4 is)
+          omega (arith, counted, all, no_parts 4 is refl, counted_long bytes (5 + w) (rows_in s) each, ap length (as_points Iso d s), as_type 4 is)
 
       pub lines_size : k ≡ 5 → (n : ℕ) → n ≡ 4 + rings * 9 → IsBodySize (n + points * row)
       lines_size is n counted =
-          let front = head 2 d in
-          omega (arith, counted, of_rings, of_rows, no_parts 5 is refl, cover_long front (rows_in s) w wide (rings_in s) (chained 5 is refl), ap length (as_line_strings d s front refl), as_type 5 is)
+          let front = head Iso 2 d in
+          omega (arith, counted, of_rings, of_rows, no_parts 5 is refl, cover_long front (rows_in s) w wide (rings_in s) (chained 5 is refl), ap length (as_line_strings Iso d s front refl), as_type 5 is)
 
       several : length (counted parts_bytes) ≡ 4 + length (concat parts_bytes)
       several = length-append (little_bytes 4 (length parts_bytes)) (concat parts_bytes) ∙ omega (arith, length-bytes_low_first 0 4 (length parts_bytes))
 
       pub polygons_size : k ≡ 6 → IsBodySize 4
-      polygons_size is = omega (arith, several, ap length (as_polygons d s), as_type 6 is)
+      polygons_size is = omega (arith, several, ap length (as_polygons Iso d s), as_type 6 is)
 
       pub shapes_size : k ≡ 7 → IsBodySize 4
-      shapes_size is = omega (arith, several, ap length (as_shapes d s), as_type 7 is)
+      shapes_size is = omega (arith, several, ap length (as_shapes Iso d s), as_type 7 is)

@@ -10,8 +10,8 @@ use Rattle.fgb_schema.specs.Shapes.{Shape, type_in, parts_in, points_in, rings_i
 use Rattle.geometry_view.specs.Weights.{shape_weight}
 use Rattle.geometry_view.proofs.Light.{weight_by, with_entries}
 use Rattle.wkb_writer.specs.Dimensions.{Dimension, tree}
-use Rattle.wkb_writer.specs.Levels.{rows_in}
-use Rattle.wkb_writer.specs.Wkb.{body, head, type_number, value}
+use Rattle.wkb_writer.specs.declared.dialect.Dialect.TheVariants.{Iso}
+use Rattle.wkb_writer.specs.Wkb.{body_of, head, type_number, value}
 use Rattle.wkb_writer.proofs.Sizes.{IsBodySize}
 use Rattle.wkb_writer.proofs.Trees.{tree_of, value_of}
 
@@ -57,10 +57,9 @@ module _ (d : Dimension) (s : Shape) where
 
   pub size_before : (n : ℕ) → IsBodySize d s n → n ≤ 32 + 9 * length (rings_in s) + 37 * length (points_in s) → IsSizeTo 0 (5 + n)
   size_before n behind small =
-      let parts = map (value d) (parts_in s) in
-      let front = head (type_in s) d in
+      let front = head Iso (type_in s) d in
       let in_front : length front ≡ 5 = omega (arith, length-bytes_low_first 0 4 (type_number (type_in s) d)) in
-      let whole = ap length (value_of d s) ∙ length-append front (body d (type_in s) (rows_in s) (rings_in s) parts) in
+      let whole = ap length (value_of Iso d s) ∙ length-append front (body_of Iso d s) in
       record {
         all = omega (arith, behind, whole, in_front);
         small = omega (arith, small, weight_by s);

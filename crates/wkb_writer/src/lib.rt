@@ -1,4 +1,5 @@
-//! Writes a shape as WKB, in its one little-endian spelling. (OGC 06-103r4, section 8.2)
+//! Writes a shape as WKB, in its one little-endian spelling. (OGC 06-103r4, section 8.2) Or as EWKB, with the number of
+//! its reference system. (PostGIS, "Extended WKB")
 //!
 //! The bytes are those of `IsWkb` in `specs/Wkb`: a byte order, a type and what the type asks for, with z and m where
 //! the points have them. A shape is refused with NoWkb exactly where no WKB holds it (`HasNoWkb` in
@@ -8,9 +9,11 @@
 //!
 //! ```text
 //! let bytes = write_wkb(alloc, &view)?;
+//! let extended = write_ewkb(alloc, &view, 4326)?;
 //! ```
 #![tactic(auto)]
 
+mod dialect;
 mod dimension;
 mod error;
 mod laws;
@@ -21,8 +24,9 @@ mod size;
 mod tests;
 mod write;
 
+pub use dialect::Dialect;
 pub use dimension::Dimension;
 pub use error::WkbError;
 pub use laws::spellings_are_one;
 pub use size::wkb_size;
-pub use write::{write_shape, write_wkb};
+pub use write::{write_ewkb, write_shape, write_wkb};

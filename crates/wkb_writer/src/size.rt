@@ -8,6 +8,7 @@ ghost use Rattle.wkb_writer.specs.Dimensions.{Fits, tree};
 ghost use Rattle.wkb_writer.specs.Levels.{rows_in};
 ghost use Rattle.wkb_writer.specs.Refusals.{IsNoWkb};
 ghost use Rattle.wkb_writer.specs.Wkb.{IsWkbSize, body, value};
+ghost use Rattle.wkb_writer.specs.declared.dialect.Dialect.TheVariants.{Iso};
 
 use crate::dimension::{Dimension, dimension_in};
 use flat_views::Broken;
@@ -45,7 +46,7 @@ fn size_of(view: &GeometryView<'_>, dimension: Dimension) -> u64
 fn body_size(view: &GeometryView<'_>, dimension: Dimension) -> u64
     requires fits { Fits dimension (geometry_shown view.now) }
     ensures all { let s = geometry_shown view.now in let parts = map (value dimension) (parts_in s) in
-        result + length (concat parts) ≡ length (body dimension (type_in s) (rows_in s) (rings_in s) parts) }
+        result + length (concat parts) ≡ length (body Iso dimension (type_in s) (rows_in s) (rings_in s) parts) }
     ensures small { let s = geometry_shown view.now in
         result ≤ 32 + 9 * length (rings_in s) + 37 * length (points_in s) }
 {

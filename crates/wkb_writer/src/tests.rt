@@ -26,6 +26,11 @@ const POINT: [u8; 21] = [
     1, 1, 0, 0, 0, 0, 0, 0, 0, 0, 0, 240, 63, 0, 0, 0, 0, 0, 0, 0, 64,
 ];
 
+/// The Point (1, 2) as EWKB, in the reference system 4326.
+const EXTENDED: [u8; 25] = [
+    1, 1, 0, 0, 0x20, 0xe6, 0x10, 0, 0, 0, 0, 0, 0, 0, 0, 240, 63, 0, 0, 0, 0, 0, 0, 0, 64,
+];
+
 /// The empty Point as WKB.
 const EMPTY: [u8; 21] = [
     1, 1, 0, 0, 0, 0, 0, 0, 0, 0, 0, 248, 127, 0, 0, 0, 0, 0, 0, 248, 127,
@@ -107,6 +112,8 @@ fn read<'a>() -> Result<GeometryView<'a>, Fail> {
 fn views(rt: HostRuntime) -> Result<(), Fail> {
     let bytes = write_wkb(rt.alloc(), &read()?).map_err(|_| Fail::new("not written"))?;
     assert_eq!(rt; bytes.as_slice(), POINT.as_slice());
+    let bytes = write_ewkb(rt.alloc(), &read()?, 4326).map_err(|_| Fail::new("not written"))?;
+    assert_eq!(rt; bytes.as_slice(), EXTENDED.as_slice());
     Ok(())
 }
 

@@ -1,5 +1,5 @@
-use Rattle.wkb_grammar.proofs.Written.{written_values_are_read}
+use Rattle.wkb_grammar.proofs.Written.{extended_values_are_read, written_values_are_read}
 use Rattle.wkb_grammar.proofs.written_values_are_read.Goals as goal
 
 pub returns : goal.returns
-returns c = written_values_are_read
+returns c = record { wkb = written_values_are_read; ewkb = extended_values_are_read }

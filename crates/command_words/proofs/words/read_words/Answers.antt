@@ -6,12 +6,12 @@ use Rattle.command_words.proofs.words.read_words.Goals as goal
 pub returns-in_err-read_query-in-Query-clause-only : goal.returns-in_err-read_query-in-Query-clause-only
 returns-in_err-read_query-in-Query-clause-only c = λ request asks.
     let asked = query_asked _ request (headed c.args.words.now _ (omega arith) _ Query request c.in_ok-named.ensures.some c.in-Query.is asks) in
-    absurd (c.in_err-read_query-in-Query.ensures.only asked.0 asked.1 asked.2 asked.3 asked.5)
+    absurd (c.in_err-read_query-in-Query.ensures.only asked.0 asked.1 asked.2 asked.3 asked.4 asked.6)
 
 pub returns-in_ok-read_query-in-Query-clause-only : goal.returns-in_ok-read_query-in-Query-clause-only
 returns-in_ok-read_query-in-Query-clause-only c = λ request asks.
     let asked = query_asked _ request (headed c.args.words.now _ (omega arith) _ Query request c.in_ok-named.ensures.some c.in-Query.is asks) in
-    let same = c.in_ok-read_query-in-Query.ensures.only asked.0 asked.1 asked.2 asked.3 asked.5 in
+    let same = c.in_ok-read_query-in-Query.ensures.only asked.0 asked.1 asked.2 asked.3 asked.4 asked.6 in
     cc
 
 pub returns-in_err-read_check-in-Check-clause-only : goal.returns-in_err-read_check-in-Check-clause-only

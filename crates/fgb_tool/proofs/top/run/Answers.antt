@@ -1,32 +1,13 @@
 use Rattle.std.proofs.Common.{refl, sym, ap, ◌∙◌}
 use Rattle.command_words.specs.Asking.{input_in, request_of}
-use Rattle.fgb_tool.proofs.Running.{Queried, does_query, Checked, does_check, Packed, does_pack}
+use Rattle.fgb_tool.proofs.Running.{Checked, does_check, Packed, does_pack}
 use Rattle.fgb_tool.proofs.Converting.{Converted, does_convert}
 use Rattle.fgb_tool.proofs.Making.{Made, does_make}
 use Rattle.fgb_tool.proofs.top.run.Goals as goal
 
 pub returns-in-Some-Query-clause-does : goal.returns-in-Some-Query-clause-does
 returns-in-Some-Query-clause-does g c = λ request asks done.
-    let left = c.write_found-written.ensures in let sought = c.in-Some-Query.sought in
-    let queried : Queried sought.boxes sought.gap sought.output (g.S.RangeSource.seen c.args.file.now) (g.S.RangeSource.seen c.write_found-written.new.file) (g.W.Sink.shown c.args.out.now) (g.W.Sink.shown c.write_found-written.new.out) c.write_found-written.result = record {
-      headline = left.headline;
-      headline_part = left.headline_part;
-      done = left.done;
-      sound = left.sound;
-      refused = left.refused;
-      unrefused = left.unrefused;
-      part = left.part;
-      large = left.large;
-      large_done = left.large_done;
-      large_file = left.large_file;
-      declared = left.declared;
-      search = left.search;
-      front = left.front;
-      failed = left.failed;
-      sink_failed = left.sink_failed;
-    } in
-    does_query _ _ _ _ _ _ _ c.map_err.result c.status_of.ensures (input_in sought.file) sought.boxes sought.gap sought.output request c.write_found-written.result c.map_err.ensures.cases queried
-    (ap request_of (sym c.in-Some-Query.field-0-is) ∙ c.in-Some-Query.ensures.only request asks)
+    (c.answer_query.ensures.status, c.answer_query.ensures.does request (ap request_of (sym c.in-Some-Query.field-0-is) ∙ c.in-Some-Query.ensures.only request asks))
 
 pub returns-in-Some-Check-clause-does : goal.returns-in-Some-Check-clause-does
 returns-in-Some-Check-clause-does g c = λ request asks done.
@@ -46,7 +27,7 @@ returns-in-Some-Check-clause-does g c = λ request asks done.
       unread = left.unread;
       never_large = left.never_large;
     } in
-    does_check _ _ _ _ _ _ _ c.check_file.result c.status_of-in-Some-Check.ensures file request checked (ap request_of (sym c.in-Some-Check.field-0-is) ∙ c.in-Some-Check.ensures.only request asks)
+    does_check _ _ _ _ _ _ _ c.check_file.result c.status_of.ensures file request checked (ap request_of (sym c.in-Some-Check.field-0-is) ∙ c.in-Some-Check.ensures.only request asks)
 
 pub returns-in-Some-Pack-clause-does : goal.returns-in-Some-Pack-clause-does
 returns-in-Some-Pack-clause-does g c = λ request asks done.

@@ -1,11 +1,11 @@
 use Rattle.std.proofs.Common.{refl, arith}
 use Rattle.flat_layout.proofs.Judging.{exit}
 use Rattle.geometry_view.specs.Kinds.{number_of}
-use Rattle.wkb_grammar.specs.Grammar.{head_in, line, line_bytes_in, value}
+use Rattle.wkb_grammar.specs.Grammar.{line, value}
 use Rattle.wkb_reader.specs.Broken.{BreaksBody, BreaksHead, BreaksLine, BreaksValue, in_head, in_line, member_of}
-use Rattle.wkb_reader.specs.Heads.{order_of}
-use Rattle.wkb_reader.proofs.Bodies.{body_fails, member_head, takes_line}
-use Rattle.wkb_reader.proofs.Passing.{passes_more, turned}
+use Rattle.wkb_reader.specs.Heads.{order_of, spelled_in}
+use Rattle.wkb_reader.proofs.Bodies.{body_fails, member_head, takes_line, value_passed}
+use Rattle.wkb_reader.proofs.Passing.{turned}
 use Rattle.wkb_reader.proofs.members.take_member_line.Goals as goal
 
 pub returns-in_err-head-clause-err : goal.returns-in_err-head-clause-err
@@ -13,7 +13,7 @@ returns-in_err-head-clause-err c =
     let b = c.args.cursor.now.rest.now in
     let standing = member_of 5 c.args.dimension in
     exit _ _ _ c.in_err-head.field-0.0 c.from_residual.ensures.1
-    (turned c.in_err-head.field-0.0 c.args.cursor.now.at (BreaksHead c.args.level standing b) (BreaksValue c.args.level standing b) (λ q r broken. in_head broken) c.in_err-head.ensures.err)
+    (turned c.in_err-head.field-0.0 c.args.cursor.now.at (BreaksHead c.args.dialect c.args.level standing b) (BreaksValue c.args.dialect c.args.level standing b) (λ q r broken. in_head broken) c.in_err-head.ensures.err)
 
 pub returns-in_err-take_ring-clause-err : goal.returns-in_err-take_ring-clause-err
 returns-in_err-take_ring-clause-err c =
@@ -24,9 +24,9 @@ returns-in_err-take_ring-clause-err c =
     let e = c.in_err-take_ring.field-0.0 in
     let mid = c.take_head.new.cursor in
     exit _ _ _ e c.from_residual-in_err-take_ring.ensures.1
-    (body_fails o c.args.level 2 d (member_of 5 d) c.args.cursor.now mid c.in_ok-head.ensures.shallow refl (refl, refl)
-    (member_head o 2 (number_of head.kind) d head.dimension c.args.cursor.now mid (takes_line (number_of head.kind) suits.0) suits.1 c.in_ok-head.ensures.ok) e
-    (turned e mid.at (BreaksLine o d mid.rest.now) (BreaksBody c.args.level o 2 d mid.rest.now) (λ q r broken. in_line broken) c.in_err-take_ring.ensures.err))
+    (body_fails c.args.dialect o c.args.level 2 d (member_of 5 d) c.args.cursor.now mid c.in_ok-head.ensures.shallow (refl, refl)
+    (member_head c.args.dialect o 2 (number_of head.kind) d head.dimension c.args.cursor.now mid (takes_line (number_of head.kind) suits.0) suits.1 c.in_ok-head.ensures.ok) e
+    (turned e mid.at (BreaksLine o d mid.rest.now) (BreaksBody c.args.dialect c.args.level o 2 d mid.rest.now) (λ q r broken. in_line broken) c.in_err-take_ring.ensures.err))
 
 pub returns-clause-ok : goal.returns-clause-ok
 returns-clause-ok c =
@@ -37,14 +37,15 @@ returns-clause-ok c =
     let start = c.args.cursor.now in
     let mid = c.take_head.new.cursor in
     let ring = c.in_ok-take_ring.ensures.ok in
+    let front = member_head c.args.dialect o 2 (number_of head.kind) d head.dimension start mid (takes_line (number_of head.kind) suits.0) suits.1 c.in_ok-head.ensures.ok in
     record {
-      taken = value o d (line ring.taken);
+      taken = value (spelled_in o front.thousands front.flags front.srid) d (line ring.taken);
       is = record {
-        is = (refl, ring.is);
+        is = (refl, ring.is, front.is.is);
+        speaks = (front.is.speaks, tt);
         fits = refl;
         shallow = omega (arith, c.in_ok-head.ensures.shallow);
       };
-      passed = passes_more start mid c.take_ring.new.cursor (head_in o 2 d) (line_bytes_in o ring.taken)
-          (member_head o 2 (number_of head.kind) d head.dimension start mid (takes_line (number_of head.kind) suits.0) suits.1 c.in_ok-head.ensures.ok) ring.passed;
+      passed = value_passed c.args.dialect o c.args.level 2 d (member_of 5 d) start mid c.in_ok-head.ensures.shallow (refl, refl) front c.take_ring.new.cursor (line ring.taken) refl ring.passed;
       shown = ring.shown;
     }

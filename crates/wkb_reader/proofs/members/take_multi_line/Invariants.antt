@@ -8,4 +8,4 @@ use Rattle.wkb_reader.proofs.members.take_multi_line.Given as goal
 
 abbrev pub invariant-loop : goal.invariant-loop
 invariant-loop l =
-    TakesEach l.counter l.initial.cursor l.cursor bytes_of (IsMember l.level 5 l.dimension) (λ members. HasRings l.dimension 5 l.shape l.points (map positions_in members))
+    TakesEach l.counter l.initial.cursor l.cursor bytes_of (IsMember l.dialect l.level 5 l.dimension) (λ members. HasRings l.dimension 5 l.shape l.points (map positions_in members))

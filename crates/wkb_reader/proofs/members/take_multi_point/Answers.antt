@@ -13,19 +13,19 @@ use Rattle.wkb_reader.proofs.members.take_multi_point.Goals as goal
 pub returns-in_err-count-clause-err : goal.returns-in_err-count-clause-err
 returns-in_err-count-clause-err c =
     exit _ _ _ c.in_err-count.field-0.0 c.from_residual.ensures.1
-    (members_cut (order_of c.args.order) c.args.level 4 c.args.dimension refl c.in_err-count.field-0.0 c.args.cursor.now.at c.args.cursor.now.rest.now c.in_err-count.ensures.err)
+    (members_cut c.args.dialect (order_of c.args.order) c.args.level 4 c.args.dimension refl c.in_err-count.field-0.0 c.args.cursor.now.at c.args.cursor.now.rest.now c.in_err-count.ensures.err)
 
 pub loop-init : goal.loop-init
 loop-init c =
     let points = c.reserve.new.self in
-    none_yet bytes_of (IsMember c.args.level 4 c.args.dimension) c.word.new.self (λ members. Adds c.args.dimension points points (joined (map positions_in members)))
+    none_yet bytes_of (IsMember c.args.dialect c.args.level 4 c.args.dimension) c.word.new.self (λ members. Adds c.args.dimension points points (joined (map positions_in members)))
     (adds_none c.args.dimension points points refl refl refl)
 
 pub returns-in_err-take_member_point-clause-err : goal.returns-in_err-take_member_point-clause-err
 returns-in_err-take_member_point-clause-err c =
     let e = c.in_err-take_member_point.field-0.0 in
     exit _ _ _ e c.from_residual-in_err-take_member_point.ensures.1
-    (member_fails (order_of c.args.order) c.args.level 4 c.args.dimension refl c.in_ok-count.count c.loop.counter c.args.cursor.now c.word.new.self c.loop.cursor
+    (member_fails c.args.dialect (order_of c.args.order) c.args.level 4 c.args.dimension refl c.in_ok-count.count c.loop.counter c.args.cursor.now c.word.new.self c.loop.cursor
     (λ members. Adds c.args.dimension c.reserve.new.self c.loop.points (joined (map positions_in members))) (omega arith) c.in_ok-count.ensures.ok c.loop.invariant e (omega arith)
     c.in_err-take_member_point.ensures.err)
 
@@ -34,7 +34,7 @@ loop-preserved c =
     let d = c.args.dimension in
     let start = c.reserve.new.self in
     let new = c.take_member_point.new.points in
-    one_more bytes_of (IsMember c.args.level 4 d) c.loop.counter c.word.new.self c.loop.cursor c.take_member_point.new.cursor
+    one_more bytes_of (IsMember c.args.dialect c.args.level 4 d) c.loop.counter c.word.new.self c.loop.cursor c.take_member_point.new.cursor
     (λ members. Adds d start c.loop.points (joined (map positions_in members))) (λ members. Adds d start new (joined (map positions_in members)))
     (λ v. Adds d c.loop.points new (positions_in v)) c.loop.invariant c.in_ok-take_member_point.ensures.ok
     (λ front v _ _ before adds. subst (Adds d start new) (sym (points_more front v)) (adds_more d start c.loop.points new (joined (map positions_in front)) (positions_in v) before adds))
@@ -54,7 +54,7 @@ gather-requires-clause-level c =
     let members = c.loop.invariant.taken in
     let ps = joined (map positions_in members) in
     gathered_level 4 d c.reserve.new.self c.loop.points ps (kept.xy ∙ empty.xy) (kept.z ∙ empty.z) (kept.m ∙ empty.m) c.loop.invariant.shown
-    (points_alone d 4 ps refl refl refl (all_points c.args.level 4 d (points_of_point c.args.level d) members c.loop.invariant.is.0) (λ one. absurd (omega (arith, one)))
+    (points_alone d 4 ps refl refl refl (all_points c.args.dialect c.args.level 4 d (points_of_point c.args.dialect c.args.level d) members c.loop.invariant.is.0) (λ one. absurd (omega (arith, one)))
     (omega (arith, members_bytes members, c.loop.invariant.passed.moved, c.loop.cursor.small)))
 
 pub returns-clause-ok : goal.returns-clause-ok
@@ -62,7 +62,7 @@ returns-clause-ok c =
     let kept = c.in_ok-reserve.ensures in
     let empty = c.new-points.ensures in
     let d = c.args.dimension in
-    members_taken (order_of c.args.order) c.args.level 4 d refl c.in_ok-count.count c.loop.counter c.args.cursor.now c.word.new.self c.loop.cursor
+    members_taken c.args.dialect (order_of c.args.order) c.args.level 4 d refl c.in_ok-count.count c.loop.counter c.args.cursor.now c.word.new.self c.loop.cursor
     (λ members. Adds d c.reserve.new.self c.loop.points (joined (map positions_in members))) (omega arith) c.in_ok-count.ensures.ok c.loop.invariant c.in_ok-shape.shape (omega arith)
     (λ members _ adds. c.in_ok-shape.ensures
     ∙ shape_gathered 4 d c.reserve.new.self c.loop.points (joined (map positions_in members)) (kept.xy ∙ empty.xy) (kept.z ∙ empty.z) (kept.m ∙ empty.m) adds

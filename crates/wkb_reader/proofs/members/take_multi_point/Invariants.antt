@@ -8,4 +8,4 @@ use Rattle.wkb_reader.proofs.members.take_multi_point.Given as goal
 
 abbrev pub invariant-loop : goal.invariant-loop
 invariant-loop l =
-    TakesEach l.counter l.initial.cursor l.cursor bytes_of (IsMember l.level 4 l.dimension) (λ members. Adds l.dimension l.initial.points l.points (joined (map positions_in members)))
+    TakesEach l.counter l.initial.cursor l.cursor bytes_of (IsMember l.dialect l.level 4 l.dimension) (λ members. Adds l.dimension l.initial.points l.points (joined (map positions_in members)))

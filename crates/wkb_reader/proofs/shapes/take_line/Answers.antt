@@ -20,12 +20,12 @@ gather-requires-clause-level c =
     (omega (arith, line_long (order_of c.args.order) taken.taken, taken.passed.moved, c.take_line.new.cursor.small)))
 
 pub returns-clause-ok : goal.returns-clause-ok
-returns-clause-ok c =
+returns-clause-ok c dialect =
     let taken = c.in_ok-take_line.ensures.ok in
     let empty = c.new-points.ensures in
     record {
       taken = line taken.taken;
-      is = record { is = taken.is; same = refl };
+      is = record { is = taken.is; speaks = tt; same = refl };
       passed = taken.passed;
       shown = c.in_ok-shape.ensures ∙ shape_gathered 2 c.args.dimension c.new-points.result c.take_line.new.self taken.taken empty.xy empty.z empty.m taken.shown;
     }

@@ -13,13 +13,13 @@ pub returns-in_err-position-clause-err : goal.returns-in_err-position-clause-err
 returns-in_err-position-clause-err c = exit _ _ _ c.in_err-position.field-0.0 c.from_residual.ensures.1 (c.in_err-position.ensures.err true)
 
 pub returns-then-is_nowhere-clause-ok : goal.returns-then-is_nowhere-clause-ok
-returns-then-is_nowhere-clause-ok c =
+returns-then-is_nowhere-clause-ok c dialect =
     let p = position_of c.in_ok-position.position in
     let d = c.args.dimension in
     let nowhere : is_nowhere p ≡ true = sym c.is_nowhere.ensures ∙ c.if-is_nowhere.true in
     record {
       taken = point p;
-      is = record { is = inr (c.in_ok-position.ensures.spelled.spelled, nowhere); same = refl };
+      is = record { is = inr (c.in_ok-position.ensures.spelled.spelled, nowhere); speaks = tt; same = refl };
       passed = c.in_ok-position.ensures.ok;
       shown = c.new.ensures ∙ (λ i. shape 1 [] [] (sym (lists_of_none d) i) none) ∙ ap (λ e. shape_of_points 1 d (if e then [] else p ∷ []) []) (sym nowhere);
     }
@@ -31,7 +31,7 @@ returns-in_err-judge-clause-err c =
     c.in_ok-position.ensures.ok c.in_ok-position.ensures.spelled.spelled (sym c.is_nowhere.ensures ∙ c.if-is_nowhere.false) c.in_err-judge.ensures.err)
 
 pub returns-clause-ok : goal.returns-clause-ok
-returns-clause-ok c =
+returns-clause-ok c dialect =
     let p = position_of c.in_ok-position.position in
     let d = c.args.dimension in
     let somewhere : is_nowhere p ≡ false = sym c.is_nowhere.ensures ∙ c.if-is_nowhere.false in
@@ -42,6 +42,7 @@ returns-clause-ok c =
       taken = point p;
       is = record {
         is = inl (record { spelled = c.in_ok-position.ensures.spelled.spelled; finite_x = c.in_ok-judge.ensures.finite_x; finite_y = c.in_ok-judge.ensures.finite_y });
+        speaks = tt;
         same = refl;
       };
       passed = c.in_ok-position.ensures.ok;

@@ -75,13 +75,13 @@ put_beside-requires-clause-each_m c =
     each_m d 3 refl c.word.new.self c.loop.cursor (flat_map (line_bytes_in o) lines) c.loop.shape c.loop.points lines c.loop.invariant.shown c.loop.invariant.passed (lines_bytes o lines) are
 
 pub returns-clause-ok : goal.returns-clause-ok
-returns-clause-ok c =
+returns-clause-ok c dialect =
     let o = order_of c.args.order in let d = c.args.dimension in
     let all = all_taken (line_bytes_in o) (IsLine d) o c.in_ok-count.count c.loop.counter c.args.cursor.now c.word.new.self c.loop.cursor (HasRings d 3 c.loop.shape c.loop.points) (omega arith)
     c.in_ok-count.ensures.ok c.loop.invariant (omega arith) in
     record {
       taken = polygon all.taken;
-      is = record { is = all.is; same = refl };
+      is = record { is = all.is; speaks = tt; same = refl };
       passed = all.passed;
       shown = rings_whole d 3 refl c.loop.shape c.put_beside.new.shape c.loop.points all.taken all.shown c.in_ok-put_beside.ensures;
     }

@@ -19,5 +19,5 @@ decreases-take_parts l = 3 * (17 - l.level)
 
 abbrev pub invariant-take_parts-loop : goal.invariant-take_parts-loop
 invariant-take_parts-loop l =
-    TakesEach l.counter l.initial.cursor l.cursor bytes_of (IsMember (level_below l.level (number_of l.head.kind)) (number_of l.head.kind) l.head.dimension)
+    TakesEach l.counter l.initial.cursor l.cursor bytes_of (IsMember l.dialect (level_below l.level (number_of l.head.kind)) (number_of l.head.kind) l.head.dimension)
     (λ members. (l.shape ≡ shape (number_of l.head.kind) [] [] no_ordinates (shapes_of (map shape_of members))) × (l.level + depth l.shape ≤ 17))

@@ -8,13 +8,13 @@ use Rattle.wkb_reader.proofs.Types.{other_byte}
 use Rattle.wkb_reader.proofs.cursor.Cursor.order.Goals as goal
 
 pub returns-then-is_at_end-clause-err : goal.returns-then-is_at_end-clause-err
-returns-then-is_at_end-clause-err c level standing =
+returns-then-is_at_end-clause-err c dialect level standing =
     let b = c.args.self.now.rest.now in
-    names_here c.refused.result c.args.self.now.at WkbEnd (BreaksHead level standing b) c.refused.ensures
+    names_here c.refused.result c.args.self.now.at WkbEnd (BreaksHead dialect level standing b) c.refused.ensures
     (no_order (nil_from_length b (grind (arith, nat_tests))))
 
 pub returns-then-byte-gt1-clause-err : goal.returns-then-byte-gt1-clause-err
-returns-then-byte-gt1-clause-err c level standing =
+returns-then-byte-gt1-clause-err c dialect level standing =
     let b = c.args.self.now.rest.now in
-    names_here c.refused-then-byte-gt1.result c.args.self.now.at WkbOrder (BreaksHead level standing b) c.refused-then-byte-gt1.ensures
-    (other_byte level standing b (omega arith))
+    names_here c.refused-then-byte-gt1.result c.args.self.now.at WkbOrder (BreaksHead dialect level standing b) c.refused-then-byte-gt1.ensures
+    (other_byte dialect level standing b (omega arith))

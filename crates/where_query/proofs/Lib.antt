@@ -1,0 +1,3 @@
+pub mod Binding
+mod Inside
+mod Answering
